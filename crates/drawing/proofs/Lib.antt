@@ -1,0 +1,10 @@
+pub mod Tables
+pub mod Digits
+pub mod Numbers
+pub mod Verdicts
+pub mod SoundFields
+pub mod SoundTables
+pub mod Stores
+pub mod Filled
+pub mod Wholes
+pub mod Held

@@ -1,0 +1,55 @@
+-- `gate_ruling` meets its contract: the frame's ruling, and where that is sound the value's.
+use native.Mathlib.Omega.{arith}
+use mathlib.Core.Path.{sym, _∙_}
+use mathlib.Core.Bool.{false}
+use denote.Ref.{now}
+use lib.Dec.{eqb}
+use Rattle.drawing.specs.Fields.{frameRules, gateRules, gateVerdict}
+use Rattle.drawing.proofs.Verdicts.{frame-fits, refused-first, sound-first}
+use borrow.Author.Needs.{needs}
+use Rattle.drawing.proofs.fields.gate_ruling.Statement.{statement}
+use Rattle.drawing.proofs.fields.gate_ruling.Tie as tie
+use Rattle.drawing.proofs.fields.gate_ruling.Reads as reads
+use Rattle.drawing.proofs.fields.gate_ruling.Lts as lts
+use Rattle.drawing.proofs.fields.frame.Reads as frame-reads
+use Rattle.drawing.proofs.fields.gate_value.Reads as gate-value-reads
+
+-- src/fields.rt:111:9
+frame-requires : tie.Need-frame-requires
+frame-requires c κs = search needs
+
+-- src/fields.rt:113:26
+enum-known-framed : tie.Need-enum-known-framed
+enum-known-framed c = search needs
+
+-- src/fields.rt:114:27
+enum-told : tie.Need-enum-told
+enum-told c = search needs
+
+-- src/fields.rt:114:27
+gate-value-requires : tie.Need-gate-value-requires
+gate-value-requires c κs =
+    let a = c .before .before .before .before .args in
+    let s = now (a .s) in
+    frame-fits s (a .at) 2 false (omega arith) (sym (c .before .before .frame .ensures) ∙ c .enum-told .given .1)
+
+-- src/fields.rt:107:1
+returns : tie.Need-returns
+unfolding gateVerdict
+returns c =
+    let a = c .before .before .before .before .before .args in
+    let s = now (a .s) in
+    refused-first (frameRules s (a .at) 2 false) (gateRules s (a .at) (a .k .leaves) (a .nodes)) tt (c .before .before .before .frame .ensures) (c .before .framed .given .1)
+
+-- src/fields.rt:107:1
+returns-2 : tie.Need-returns-2
+unfolding gateVerdict
+returns-2 c =
+    let a = c .before .before .before .before .before .args in
+    let s = now (a .s) in
+    sound-first (frameRules s (a .at) 2 false) (gateRules s (a .at) (a .k .leaves) (a .nodes)) tt (c .before .before .before .frame .ensures) (c .before .enum-told .given .1) (c .gate-value .ensures)
+
+pub gate-ruling-spec : {M : Type 1} → statement M
+gate-ruling-spec =
+    tie.close
+    (tie.spec frame-requires enum-known-framed enum-told gate-value-requires returns returns-2)

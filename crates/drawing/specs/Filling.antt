@@ -1,0 +1,76 @@
+-- What the loops of a reading leave: from a place on, the arrays, the ruling and the end.
+use Prim.Native.Nat.{ℕ, _+_, _*_, _-_, _≤_, _<_}
+use mathlib.Core.Path.{_≡_}
+use mathlib.Core.List.{List}
+use lib.ListN.{length}
+use lib.Seq.{sets}
+use Rattle.drawing.specs.declared.Verdict.{Verdict}
+use Rattle.drawing.specs.declared.Verdict.the-variants.{Sound, Refused}
+use Rattle.drawing.specs.declared.filling.Ended.{Ended}
+use Rattle.drawing.specs.declared.filling.Ended.the-variants.{At, RefusedFor}
+use Rattle.drawing.specs.Bytes.{lengthAt, valueAt}
+use Rattle.drawing.specs.Fields.{gateM, gateAt, gateVerdict}
+use Rattle.drawing.specs.Reading.{Lines, GatesFound, gatesFrom, OutputsFound, outputsFrom, outputsAt, putGate, putGates}
+
+abbrev pub endOf : Verdict → ℕ → Ended
+endOf Sound next = At next
+endOf (Refused r) next = RefusedFor r
+
+-- A gate's line can be stored at node v: its value lies within the bytes, and its entries within the arrays.
+pub record GateFits (s : List ℕ) (at v : ℕ) (a : Lines) : Type 0 where
+  pub whole : valueAt at + 9 + gateM s at ≤ length s
+  pub few : gateM s at ≤ 6
+  pub fan : 6 * v + 6 ≤ length (a .fan)
+  pub count : v < length (a .count)
+  pub rows : v < length (a .rows)
+
+-- A gate can be read at `at` for node v: K is the paper's at most, and v's entries lie within the arrays.
+pub record GateTurn (s : List ℕ) (at k v : ℕ) (a : Lines) : Type 0 where
+  pub inside : at ≤ length s
+  pub small : k ≤ 6
+  pub fan : 6 * v + 6 ≤ length (a .fan)
+  pub count : v < length (a .count)
+  pub rows : v < length (a .rows)
+
+-- one gate read, or refused
+abbrev pub gateStored : Lines → ℕ → List ℕ → ℕ → Verdict → Lines
+gateStored a v s at Sound = putGate a v (gateAt s at)
+gateStored a v s at (Refused r) = a
+
+pub record GateRead (before : Lines) (s : List ℕ) (at k nodes v : ℕ) (r : Ended) (after : Lines) : Type 0 where
+  pub reply : r ≡ endOf (gateVerdict s at k nodes) (valueAt at + lengthAt s at)
+  pub lines : after ≡ gateStored before v s at (gateVerdict s at k nodes)
+
+-- The gates of a sound head can be read: the numbers are the paper's, and the arrays are long enough.
+pub record GatesFit (s : List ℕ) (k inputs nodes : ℕ) (a : Lines) : Type 0 where
+  pub head : 7 ≤ length s
+  pub small : k ≤ 6
+  pub span : inputs ≤ nodes
+  pub most : nodes ≤ 192
+  pub fan : 1152 ≤ length (a .fan)
+  pub count : 192 ≤ length (a .count)
+  pub rows : 192 ≤ length (a .rows)
+
+-- the gates from node v on, read at `at`
+pub record GatesDone : Type 0 where
+  pub lines : Lines
+  pub verdict : Verdict
+  pub next : ℕ
+
+abbrev pub gatesDone : List ℕ → (k nodes : ℕ) → Lines → (v at : ℕ) → GatesDone
+gatesDone s k nodes a v at =
+    let rest = gatesFrom s k nodes (nodes - v) at in
+    record { lines = putGates a v (rest .gates); verdict = rest .verdict; next = rest .next }
+
+pub record GatesRead (before : Lines) (s : List ℕ) (k nodes v at : ℕ) (r : Ended) (after : Lines) : Type 0 where
+  pub reply : r ≡ endOf (gatesDone s k nodes before v at .verdict) (gatesDone s k nodes before v at .next)
+  pub lines : after ≡ gatesDone s k nodes before v at .lines
+  pub inside : (next : ℕ) → r ≡ At next → next ≤ length s
+
+-- the outputs from the i-th on, read at `at`
+abbrev pub endOfOutputs : OutputsFound → (i : ℕ) → Ended
+endOfOutputs found i = endOf (found .verdict) (i + length (found .outputs))
+
+pub record OutputsRead (before : List ℕ) (i : ℕ) (found : OutputsFound) (r : Ended) (after : List ℕ) : Type 0 where
+  pub reply : r ≡ endOfOutputs found i
+  pub outputs : after ≡ sets before i (found .outputs)

@@ -1,0 +1,62 @@
+// Numbers in a table's bytes.
+ghost use mathlib.Core.Path.{_≡_};
+ghost use mathlib.Core.Bool.{not};
+ghost use Prim.Native.Nat.{_+_, _^_, _<_, _≤_};
+ghost use lib.ListN.{length, take, drop};
+ghost use Rattle.drawing.specs.Bytes.{ByteAt, numberAt, lengthAt, someFrom};
+
+// The byte at a place, as a number.
+pub fn byte_at(s: &[u8], at: usize) -> usize
+    requires { ⌜ at < length (now s) ⌝ }
+    ensures { λ r. ⌜ ByteAt (now (s .entry)) at r ⌝ }
+{
+    s[at] as usize
+}
+
+// The number that `size` bytes from `at` on make, high byte first.
+pub fn number_at(s: &[u8], at: usize, size: usize) -> u64
+    requires { ⌜ size ≤ 8 ⌝ }
+    requires { ⌜ at + size ≤ length (now s) ⌝ }
+    ensures { λ r. ⌜ r ≡ numberAt (now (s .entry)) at size ⌝ }
+{
+    let mut number: u64 = 0;
+    let mut i = 0;
+    while i < size {
+        number = number * 256 + byte_at(s, at + i) as u64;
+        i += 1;
+    }
+    number
+}
+
+// The length that the field at `at` gives for its value.
+pub fn length_at(s: &[u8], at: usize) -> usize
+    requires { ⌜ at + 3 ≤ length (now s) ⌝ }
+    ensures { λ r. ⌜ r ≡ lengthAt (now (s .entry)) at ⌝ }
+{
+    number_at(s, at + 1, 2) as usize
+}
+
+// Are the `count` ids from `at` on all below `nodes`?
+pub fn ids_below(s: &[u8], at: usize, count: usize, nodes: usize) -> bool
+    requires { ⌜ at + count ≤ length (now s) ⌝ }
+    ensures { λ r. ⌜ r ≡ not (someFrom nodes (take count (drop at (now (s .entry))))) ⌝ }
+{
+    let mut i = 0;
+    while i < count {
+        if nodes <= byte_at(s, at + i) {
+            return false;
+        }
+        i += 1;
+    }
+    true
+}
+
+// The largest table of a gate with m fanins: every bit below row 2^m set.
+const FULL: [u64; 7] = [1, 3, 15, 255, 65535, 4294967295, 18446744073709551615];
+
+pub fn full_table(m: usize) -> u64
+    requires { ⌜ m ≤ 6 ⌝ }
+    ensures { λ r. ⌜ r + 1 ≡ 2 ^ (2 ^ m) ⌝ }
+{
+    FULL[m]
+}

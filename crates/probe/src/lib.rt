@@ -1,0 +1,76 @@
+// What the tests outside Rattle call: inner functions of the library, with their replies as words.
+use drawing::Head;
+use drawing::Reading;
+use drawing::Refusal;
+ghost use mathlib.Core.Path.{_≡_};
+ghost use Rattle.drawing.specs.Refusals.{number, place};
+ghost use Rattle.drawing.specs.Reading.{arraysOf};
+ghost use Rattle.probe.specs.Words.{refusalWord, wholeWord, SmallNumbers, ReadsAs};
+
+fn number_of(r: Refusal) -> u64
+    ensures { λ w. ⌜ w ≡ number r ⌝ }
+{
+    match r {
+        Refusal::Torn(_) => 1,
+        Refusal::Tag(_) => 2,
+        Refusal::Length(_) => 3,
+        Refusal::Range(_) => 4,
+        Refusal::Rows(_) => 5,
+        Refusal::Outputs(_) => 6,
+    }
+}
+
+fn place_of(r: Refusal) -> u64
+    ensures { λ w. ⌜ w ≡ place r ⌝ }
+{
+    match r {
+        Refusal::Torn(at) => at as u64,
+        Refusal::Tag(at) => at as u64,
+        Refusal::Length(at) => at as u64,
+        Refusal::Range(at) => at as u64,
+        Refusal::Rows(at) => at as u64,
+        Refusal::Outputs(at) => at as u64,
+    }
+}
+
+fn refusal_word(r: Refusal) -> u64
+    ensures { λ w. ⌜ w ≡ refusalWord r ⌝ }
+{
+    let number = number_of(r);
+    let place = place_of(r);
+    if place < 4294967296 {
+        number * 4294967296 + place
+    } else {
+        number * 4294967296 + 4294967295
+    }
+}
+
+fn whole_word(h: Head, outputs: usize) -> u64
+    requires { ⌜ SmallNumbers h outputs ⌝ }
+    ensures { λ w. ⌜ w ≡ wholeWord h outputs ⌝ }
+{
+    let k = h.k;
+    (k.leaves as u64)
+        + 256 * (h.inputs as u64)
+        + 65536 * (h.gates as u64)
+        + 16777216 * (outputs as u64)
+}
+
+// `drawing::read`, with its reply as a word.
+#[no_mangle]
+pub extern "C" fn probe_read(
+    table: &[u8],
+    fan: &mut [u16],
+    count: &mut [u8],
+    rows: &mut [u64],
+    outputs: &mut [u16],
+) -> u64
+    ensures { λ w. ⌜ ReadsAs (arraysOf (now (fan .entry)) (now (count .entry)) (now (rows .entry)) (now (outputs .entry))) (now (table .entry)) w (arraysOf (now (fan .exit)) (now (count .exit)) (now (rows .exit)) (now (outputs .exit))) ⌝ }
+{
+    let reply = drawing::read(table, fan, count, rows, outputs);
+    match reply {
+        Reading::Whole(head, number) => whole_word(head, number),
+        Reading::Refused(r) => refusal_word(r),
+        Reading::Lent => 1095216660480,
+    }
+}
