@@ -6,8 +6,7 @@ use native.Mathlib.Nat.{le-refl}
 use native.Mathlib.Omega.{arith}
 use mathlib.Core.Path.{_≡_, sym, ap, _∙_}
 use mathlib.Core.Logic.{_⊎_, inl, inr, ⊎-elim}
-use mathlib.Core.Bool.{Bool, not, decide}
-use mathlib.Mathlib.Data.Bool.Basic.{decide-true, decide-false}
+use mathlib.Core.Bool.{Bool, not}
 use mathlib.Core.List.{List, map, List·Memᴰ}
 use lib.ListN.{length, length-map}
 use Rattle.theory.specs.Net.{Net, Gate}
@@ -15,7 +14,7 @@ use Rattle.theory.specs.Values.{rowOf, resultAt}
 use Rattle.theory.specs.Walk.{Walked, Cut, Cone}
 use Rattle.theory.specs.Lookup.{ObeysCone, ConeTable}
 use Rattle.theory.specs.Sound.{Ranked}
-use Rattle.theory.proofs.Decisions.{decide-member}
+use Rattle.theory.proofs.Tests.{isMember, decides-member, decides-not}
 use Rattle.theory.proofs.Members.{rising-no-repeats}
 use Rattle.theory.proofs.Picks.{map-agree, agree-of-map, settingOf, setting-written}
 use Rattle.theory.proofs.Walks.{NodesFeed, StopsInputs, cone-closed, walked-no-leaf}
@@ -47,19 +46,19 @@ module _ (net : Net) (tables : ℕ → ℕ) (feed : NodesFeed net) (leaves : Lis
 
 -- A valuation for each setting of the leaves
 
+-- the values that a setting of the leaves gives, computed along a rank
+unfoldable pub coneValue : Net → (tables rank : ℕ → ℕ) → List ℕ → (ℕ → Bool) → ℕ → Bool
+coneValue net tables rank leaves setting = settle (net .fanins) tables rank (λ v. not (isMember v leaves)) setting
+
 module _ (net : Net) (tables : ℕ → ℕ) (ranked : Ranked net) (leaves : List ℕ) (setting : ℕ → Bool) where
-  -- the values that a setting of the leaves gives
-  pub coneValue : ℕ → Bool
-  coneValue = settle (net .fanins) tables (ranked .rank) (λ v. not (decide (decide-member v leaves))) setting
-
-  pub coneValue-sets : (v : ℕ) → List·Memᴰ v leaves → coneValue v ≡ setting v
+  pub coneValue-sets : (v : ℕ) → List·Memᴰ v leaves → coneValue net tables (ranked .rank) leaves setting v ≡ setting v
   unfolding coneValue
-  coneValue-sets v m = settle-sets _ _ _ _ _ v (ap not (decide-true (decide-member v leaves) m))
+  coneValue-sets v m = settle-sets _ _ _ _ _ v (ap not (decides-member v leaves .passes m))
 
-  pub coneValue-obeys : (t : ℕ) → (List·Memᴰ t leaves → ⊥) → ObeysCone net tables leaves t coneValue
+  pub coneValue-obeys : (t : ℕ) → (List·Memᴰ t leaves → ⊥) → ObeysCone net tables leaves t (coneValue net tables (ranked .rank) leaves setting)
   unfolding coneValue
   coneValue-obeys t fresh g cone =
-      settle-follows _ _ _ _ _ (λ v b u m. ranked .rises u v m) g (ap not (decide-false (decide-member g leaves) (walked-no-leaf fresh (cone .walked))))
+      settle-follows _ _ _ _ _ (λ v b u m. ranked .rises u v m) g (decides-not (decides-member g leaves) .passes (walked-no-leaf fresh (cone .walked)))
 
 -- One table
 
@@ -83,35 +82,37 @@ module _ (net : Net) (tables : ℕ → ℕ) (feed : NodesFeed net) (ranked : Ran
           cone-agrees net tables feed leaves t stops ranked x (y r) (λ v m. agree-of-map x (y r) bits m) ox (obeys r below) t root
           ∙ sym (results r below)
 
-module _ (net : Net) (tables : ℕ → ℕ) (ranked : Ranked net) (leaves : List ℕ) where
-  -- the valuation that row r gives
-  rowValue : ℕ → ℕ → Bool
-  rowValue r = coneValue net tables ranked leaves (settingOf leaves (bitsOf (length leaves) r))
+-- the valuation that row r gives
+unfoldable pub rowValue : Net → (tables rank : ℕ → ℕ) → List ℕ → ℕ → ℕ → Bool
+rowValue net tables rank leaves r = coneValue net tables rank leaves (settingOf leaves (bitsOf (length leaves) r))
 
-  -- t's value for each setting of the leaves
-  pub coneTable : ℕ → ℕ
-  coneTable t = tableOf (2 ^ length leaves) (λ r. rowValue r t)
+-- t's value for each setting of the leaves
+unfoldable pub coneTableAlong : Net → (tables rank : ℕ → ℕ) → List ℕ → ℕ → ℕ
+coneTableAlong net tables rank leaves t = tableOf (2 ^ length leaves) (λ r. rowValue net tables rank leaves r t)
+
+abbrev pub coneTable : (net : Net) → (tables : ℕ → ℕ) → Ranked net → List ℕ → ℕ → ℕ
+coneTable net tables ranked = coneTableAlong net tables (ranked .rank)
 
 module _ (net : Net) (tables : ℕ → ℕ) (ranked : Ranked net) (k t : ℕ) (leaves : List ℕ) (cut : Cut net k t leaves) where
-  row-obeys : (r : ℕ) → ObeysCone net tables leaves t (rowValue net tables ranked leaves r)
+  row-obeys : (r : ℕ) → ObeysCone net tables leaves t (rowValue net tables (ranked .rank) leaves r)
   unfolding rowValue
   row-obeys r = coneValue-obeys net tables ranked leaves _ t (root-no-leaf ranked cut)
 
-  row-sets : (r : ℕ) → map (rowValue net tables ranked leaves r) leaves ≡ bitsOf (length leaves) r
+  row-sets : (r : ℕ) → map (rowValue net tables (ranked .rank) leaves r) leaves ≡ bitsOf (length leaves) r
   unfolding rowValue
   row-sets r =
       map-agree _ _ leaves (coneValue-sets net tables ranked leaves _)
       ∙ setting-written _ (rising-no-repeats (cut .rising)) (length-bitsOf (length leaves) r)
 
   pub cone-table : NodesFeed net → Gate net t → ConeTable net tables leaves t (coneTable net tables ranked leaves t)
-  unfolding coneTable
+  unfolding coneTableAlong
   cone-table feed gate =
-      cone-table-of-rows net tables feed ranked leaves t gate (cut .stops) _ (table-below _ _) (rowValue net tables ranked leaves)
-      (λ r h. row-obeys r) (λ r h. row-sets r) (result-of-table (2 ^ length leaves) (λ r. rowValue net tables ranked leaves r t))
+      cone-table-of-rows net tables feed ranked leaves t gate (cut .stops) _ (table-below _ _) (rowValue net tables (ranked .rank) leaves)
+      (λ r h. row-obeys r) (λ r h. row-sets r) (result-of-table (2 ^ length leaves) (λ r. rowValue net tables (ranked .rank) leaves r t))
 
   pub cone-table-only : (a b : ℕ) → ConeTable net tables leaves t a → ConeTable net tables leaves t b → a ≡ b
   cone-table-only a b ta tb = tables-agree (2 ^ length leaves) a b (ta .rows) (tb .rows) (λ r h. sym (at-row a ta r h) ∙ at-row b tb r h)
     where
-      at-row : (c : ℕ) → ConeTable net tables leaves t c → (r : ℕ) → r < 2 ^ length leaves → rowValue net tables ranked leaves r t ≡ resultAt c r
+      at-row : (c : ℕ) → ConeTable net tables leaves t c → (r : ℕ) → r < 2 ^ length leaves → rowValue net tables (ranked .rank) leaves r t ≡ resultAt c r
       at-row c tc r h =
-          tc .value (rowValue net tables ranked leaves r) (row-obeys r) ∙ ap (resultAt c) (ap rowOf (row-sets r) ∙ row-of-bits (length leaves) r h)
+          tc .value (rowValue net tables (ranked .rank) leaves r) (row-obeys r) ∙ ap (resultAt c) (ap rowOf (row-sets r) ∙ row-of-bits (length leaves) r h)

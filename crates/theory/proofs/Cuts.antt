@@ -1,20 +1,19 @@
 -- Which leaves are cuts. Of leaves that stop the walk those met are a cut; the distinct fanins of a gate are a cut; two cuts with the same cone
 -- are the same list. That a cut has a leaf comes from one lemma, `leaf-met`: a walk back ends only at inputs, since each gate has a fanin.
 use Prim.Native.Nat.{ℕ, _<_}
-use native.Mathlib.Decide.{decLe, map-dec}
 use native.Mathlib.Omega.{arith}
 use mathlib.Core.Path.{_≡_, refl, subst}
-use mathlib.Core.Logic.{⊎-elim, Dec·not}
+use mathlib.Core.Logic.{⊎-elim}
 use mathlib.Core.List.{List, List·Memᴰ}
-use lib.ListN.{length}
-use Rattle.theory.specs.Net.{Net, Gate, Input}
+use Rattle.theory.specs.Net.{Net, Gate}
 use Rattle.theory.specs.Sound.{Bounded, Ranked}
 use Rattle.theory.specs.Walk.{Walked, Met, Cut, Cone}
 use Rattle.theory.specs.Evidence.{DistinctFanins}
 use Rattle.theory.proofs.Ranks.{by-rank}
-use Rattle.theory.proofs.Decisions.{decide-both, decide-member, decide-some-below}
+use Rattle.theory.proofs.Tests.{decided}
 use Rattle.theory.proofs.Members.{no-longer, some-member, member-counts, rising-no-repeats, rising-equal, Sorted, sort}
-use Rattle.theory.proofs.Walks.{Stops, inner-stops, walk-fewer, meet-on, leaf-or-walked, walked-no-leaf, cone-closed, cone-of-walked, no-loop, met-behind, decide-met}
+use Rattle.theory.proofs.Walks.{Stops, inner-stops, walk-fewer, meet-on, leaf-or-walked, walked-no-leaf, cone-closed, cone-of-walked, no-loop, met-behind}
+use Rattle.theory.proofs.DecideCut.{decides-met}
 
 -- a cut among given leaves
 pub record InnerCut (net : Net) (k t : ℕ) (leaves : List ℕ) : Type 0 where
@@ -58,7 +57,7 @@ module _ {net : Net} {k : ℕ} (bounded : Bounded net k) (ranked : Ranked net) w
 
   pub cut-of-stops : {t : ℕ} {leaves : List ℕ} → Gate net t → Stops net k t leaves → InnerCut net k t leaves
   cut-of-stops {t} {leaves} gate s =
-      let met : Sorted (Met net leaves t) leaves = sort (Met net leaves t) leaves (λ v _. decide-met ranked bounded leaves t (gate .below) v) in
+      let met : Sorted (Met net leaves t) leaves = sort (Met net leaves t) leaves (λ v _. decided (decides-met bounded (gate .below) leaves v)) in
       let (l, leaf, here) = leaf-met gate s in
       record {
         inner = met .list;
@@ -113,29 +112,6 @@ module _ {net : Net} {k : ℕ} (bounded : Bounded net k) (ranked : Ranked net) w
       ((v : ℕ) → Cone net leaves t v → Cone net other t v) → ((v : ℕ) → Cone net other t v → Cone net leaves t v) → leaves ≡ other
   same-cone-same-cut gate cut cut′ there back =
       rising-equal (cut .rising) (cut′ .rising) (leaf-moves gate cut cut′ there back) (leaf-moves gate cut′ cut back there)
-
-  -- Whether leaves stop the walk is decided.
-
-  -- an input that the walk meets and that is no leaf
-  Missed : ℕ → List ℕ → ℕ → Type 0
-  Missed t leaves v = Met net leaves t v × (List·Memᴰ v leaves → ⊥)
-
-  decide-missed : {t : ℕ} → Gate net t → (leaves : List ℕ) → Dec ((v : ℕ) × Input net v × Missed t leaves v)
-  unfolding Missed
-  decide-missed {t} gate leaves =
-      decide-some-below (Missed t leaves) (net .inputs) (λ v.
-      decide-both (decide-met ranked bounded leaves t (gate .below) v) (λ _. Dec·not (decide-member v leaves)))
-
-  pub decide-stops : {t : ℕ} → Gate net t → (leaves : List ℕ) → Dec (Stops net k t leaves)
-  unfolding Missed
-  decide-stops {t} gate leaves =
-      map-dec (λ both. record { stops = λ v m i. leaf v m i (both .0) (decide-member v leaves); few = both .1 })
-      (λ s. ((λ (v, i, (m, out)). out (s .stops v m i)), s .few))
-      (decide-both (Dec·not (decide-missed gate leaves)) (λ _. decLe (length leaves) k))
-    where
-      leaf : (v : ℕ) → Met net leaves t v → Input net v → ((u : ℕ) × Input net u × Missed t leaves u → ⊥) → Dec (List·Memᴰ v leaves) → List·Memᴰ v leaves
-      leaf v m i none (yes here) = here
-      leaf v m i none (no out) = absurd (none (v, i, (m, out)))
 
 -- the distinct fanins of a node, as a rising list
 pub distinct-fanins : (net : Net) (t : ℕ) → (leaves : List ℕ) × DistinctFanins net t leaves

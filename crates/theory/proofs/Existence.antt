@@ -1,36 +1,30 @@
 -- Numbers that keep the local rules exist, so every node has a label. They are given out along the rank: at the next gate it is decided, by
--- trying all short lists, whether leaves outside D stop the walk; if so their cut shows p, else the distinct fanins show p + 1. What the rule
+-- trying all short lists, whether a cut outside D exists; if so it shows p, else the distinct fanins show p + 1. What the rule
 -- at a gate says rests on the numbers behind it alone.
 use Prim.Native.Nat.{ℕ, zero, suc, _≤_, _<_}
 use native.Mathlib.Nat.{not-suc-le-zero}
-use native.Mathlib.Decide.{decLe, map-dec, ℕ-discrete}
+use native.Mathlib.Decide.{decLe, ℕ-discrete}
 use native.Mathlib.Omega.{arith}
-use mathlib.Core.Path.{_≡_, refl, sym, subst, _∙_}
-use mathlib.Core.Logic.{_⊎_, inl, inr, ⊎-elim, Dec·not}
+use mathlib.Core.Path.{_≡_, refl, sym, _∙_}
 use mathlib.Core.List.{List, []}
 use Rattle.theory.specs.Net.{Net, Gate}
 use Rattle.theory.specs.Sound.{Bounded, Ranked}
-use Rattle.theory.specs.Walk.{Behind}
+use Rattle.theory.specs.Walk.{Cut}
 use Rattle.theory.specs.Cover.{Label}
-use Rattle.theory.specs.Evidence.{peak, InD, Outside}
+use Rattle.theory.specs.Evidence.{peak, Outside}
 use Rattle.theory.proofs.Ranks.{common-bound}
-use Rattle.theory.proofs.Decisions.{decide-both, decide-some, ShortList, decide-short-list}
-use Rattle.theory.proofs.Walks.{Stops, Tight, cut-stops, met-node, met-rank, gate-no-input, decide-gate, decide-met}
-use Rattle.theory.proofs.Cuts.{InnerCut, cut-of-stops, decide-stops, distinct-fanins}
+use Rattle.theory.proofs.Tests.{decided}
+use Rattle.theory.proofs.Decisions.{decide-both}
+use Rattle.theory.proofs.Walks.{Tight, met-rank, gate-no-input, decide-gate}
+use Rattle.theory.proofs.DecideEvidence.{isOutside, decides-outside}
+use Rattle.theory.proofs.TriedCuts.{decides-some-cut}
+use Rattle.theory.proofs.Cuts.{InnerCut, cut-of-stops, distinct-fanins}
 use Rattle.theory.proofs.Bounds.{ZeroAtInputs}
 use Rattle.theory.proofs.Labels.{LocalRule, LocalRules, rules-are-labels}
 use Rattle.theory.proofs.Duality.{NeverFalls}
 use Rattle.theory.proofs.Rules.{rule-agrees, rule-at-peak, rule-above-peak, peaked-never-fall}
 
 -- The rule at the next gate
-
--- a member of D other than t
-abbrev Peer : Net → (ℕ → ℕ) → ℕ → ℕ → Type 0
-Peer net lab t v = Gate net v × (Behind net t v × (lab v ≡ peak net lab t))
-
-in-d-cases : {net : Net} {lab : ℕ → ℕ} {t v : ℕ} → InD net lab t v → (v ≡ t) ⊎ Peer net lab t v
-in-d-cases InD.self = inl refl
-in-d-cases (InD.behind g b e) = inr (g, (b, e))
 
 -- a number and leaves that keep the rule at t
 record Kept (net : Net) (k : ℕ) (lab : ℕ → ℕ) (t : ℕ) : Type 0 where
@@ -40,41 +34,17 @@ record Kept (net : Net) (k : ℕ) (lab : ℕ → ℕ) (t : ℕ) : Type 0 where
 
 module _ {net : Net} {k : ℕ} (bounded : Bounded net k) (ranked : Ranked net) where
   module _ (lab : ℕ → ℕ) {t : ℕ} (gate : Gate net t) where
-    decide-peer : (v : ℕ) → Dec (Peer net lab t v)
-    decide-peer v =
-        decide-both (decide-gate v) (λ _.
-        decide-both (decide-met ranked bounded [] t (gate .below) v) (λ _. ℕ-discrete (lab v) (peak net lab t)))
+    -- a cut outside D
+    abbrev OutsideCut : Type 0
+    OutsideCut = (leaves : List ℕ) × (Cut net k t leaves × Outside net lab t leaves)
 
-    decide-in-d : (v : ℕ) → Dec (InD net lab t v)
-    decide-in-d v = either (ℕ-discrete v t) (decide-peer v)
-      where
-        either : Dec (v ≡ t) → Dec (Peer net lab t v) → Dec (InD net lab t v)
-        either (yes e) _ = yes (subst (InD net lab t) (sym e) InD.self)
-        either (no _) (yes (g, (b, e))) = yes (InD.behind g b e)
-        either (no apart) (no none) = no (λ member. ⊎-elim apart none (in-d-cases member))
+    decide-outside-cut : Dec OutsideCut
+    decide-outside-cut = decided (decides-some-cut bounded k (gate .below) (isOutside net lab t) (decides-outside bounded lab (gate .below)))
 
-    decide-outside : (leaves : List ℕ) → Dec (Outside net lab t leaves)
-    decide-outside leaves =
-        map-dec (λ none v leaf member. none (v, leaf, member)) (λ outside found. outside (found .0) (found .1) (found .2))
-        (Dec·not (decide-some (InD net lab t) leaves (λ v _. decide-in-d v)))
-
-    -- leaves outside D that stop the walk, or none
-    abbrev Outsiders : List ℕ → Type 0
-    Outsiders leaves = Stops net k t leaves × Outside net lab t leaves
-
-    decide-outsiders : Dec (ShortList (net .nodes) k Outsiders)
-    decide-outsiders = decide-short-list (net .nodes) k Outsiders (λ l. decide-both (decide-stops bounded ranked gate l) (λ _. decide-outside l))
-
-    none-outside : (ShortList (net .nodes) k Outsiders → ⊥) → Tight net k lab t
+    none-outside : (OutsideCut → ⊥) → Tight net k lab t
     none-outside none other s outside =
         let c : InnerCut net k t other = cut-of-stops bounded ranked gate s in
-        none
-        (record {
-          list = c .inner;
-          few = c .cut .few;
-          below = λ v m. met-node bounded (gate .below) (c .cut .met v m);
-          holds = (cut-stops (c .cut), λ v m. outside v (c .from v m));
-        })
+        none (c .inner, (c .cut, λ v m. outside v (c .from v m)))
 
     by-fanins : (1 ≤ peak net lab t → Tight net k lab t) → Kept net k lab t
     by-fanins tight =
@@ -82,19 +52,13 @@ module _ {net : Net} {k : ℕ} (bounded : Bounded net k) (ranked : Ranked net) w
         record { number = suc (peak net lab t); leaves = leaves; rule = rule-above-peak bounded gate ranked fanins tight }
 
     next-rule : ZeroAtInputs net lab → NeverFalls net lab t → Kept net k lab t
-    next-rule zeros never-falls = by-peak (decLe 1 (peak net lab t)) decide-outsiders
+    next-rule zeros never-falls = by-peak (decLe 1 (peak net lab t)) decide-outside-cut
       where
-        by-peak : Dec (1 ≤ peak net lab t) → Dec (ShortList (net .nodes) k Outsiders) → Kept net k lab t
+        by-peak : Dec (1 ≤ peak net lab t) → Dec OutsideCut → Kept net k lab t
         by-peak (no low) _ = by-fanins (λ some. absurd (low some))
         by-peak (yes some) (no none) = by-fanins (λ _. none-outside none)
-        by-peak (yes some) (yes short) =
-            let (s, outside) = short .holds in
-            let c : InnerCut net k t (short .list) = cut-of-stops bounded ranked gate s in
-            record {
-              number = peak net lab t;
-              leaves = c .inner;
-              rule = rule-at-peak bounded gate zeros never-falls some (c .cut) (λ v m. outside v (c .from v m));
-            }
+        by-peak (yes some) (yes (leaves, (cut, outside))) =
+            record { number = peak net lab t; leaves = leaves; rule = rule-at-peak bounded gate zeros never-falls some cut outside }
 
   -- Along the rank
 

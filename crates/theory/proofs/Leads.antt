@@ -1,5 +1,6 @@
 -- Going from node to node along lists: where `next` leads from a node, through nodes that pass. Where a rank falls on the way it is decided
--- whether one node leads to another, by trying the first steps.
+-- whether one node leads to another, by trying the first steps: that takes a rank and no bound on the nodes, where Marks takes a bound and
+-- no rank.
 use Prim.Native.Nat.{ℕ, _<_}
 use native.Mathlib.Decide.{ℕ-discrete}
 use mathlib.Core.Path.{_≡_, refl, sym, subst}

@@ -1,9 +1,16 @@
-pub mod Ranks
+pub mod Tests
 pub mod Decisions
+pub mod Ranks
 pub mod Members
 pub mod Picks
 pub mod Leads
+pub mod DecideNet
 pub mod Walks
+pub mod Marks
+pub mod DecideCut
+pub mod DecideEvidence
+pub mod TriedCuts
+pub mod Loops
 pub mod Cuts
 pub mod Depths
 pub mod Bounds
@@ -18,3 +25,9 @@ pub mod Rows
 pub mod Valuations
 pub mod Cones
 pub mod Computes
+pub mod DecideLabels
+pub mod DecideMapper
+pub mod DecideCover
+pub mod DecideDrawing
+pub mod Drawings
+pub mod Traps

@@ -81,11 +81,11 @@ greatest-stands f (x ∷ l) some = by-order (decLt (f x) (greatest (map f l))) (
 
 -- Rising lists
 
-rising-tail : {u : ℕ} {l : List ℕ} → Rising (u ∷ l) → Rising l
+pub rising-tail : {u : ℕ} {l : List ℕ} → Rising (u ∷ l) → Rising l
 rising-tail Rising.one = Rising.none
 rising-tail (Rising.more less r) = r
 
-rising-above : {u : ℕ} {l : List ℕ} → Rising (u ∷ l) → (v : ℕ) → List·Memᴰ v l → u < v
+pub rising-above : {u : ℕ} {l : List ℕ} → Rising (u ∷ l) → (v : ℕ) → List·Memᴰ v l → u < v
 rising-above Rising.one v m = absurd (List·Memᴰ·not-nil m)
 rising-above (Rising.more {u = u} {v = w} {vs = vs} less r) v m =
     ⊎-elim (λ (e : v ≡ w). omega arith) (λ (later : List·Memᴰ v vs). omega (arith, rising-above r v later)) (List·Memᴰ·cases-cons m)

@@ -1,5 +1,5 @@
 -- How the local rule comes about at a gate: a cut outside D shows p, and the distinct fanins show p + 1 where nothing outside D stops the walk, as
--- evidence proves. What the rule says rests on the numbers behind the gate alone.
+-- evidence proves. What the rule says rests on the numbers behind the gate alone. So numbers whose lines an inspector finds right are the labels.
 use Prim.Native.Nat.{ℕ, suc, _-_, _≤_, _<_}
 use native.Mathlib.Decide.{ℕ-discrete}
 use native.Mathlib.Omega.{arith}
@@ -10,23 +10,24 @@ use Rattle.theory.specs.Net.{Net, Gate, Input}
 use Rattle.theory.specs.Sound.{Bounded, Ranked}
 use Rattle.theory.specs.Lists.{greatest}
 use Rattle.theory.specs.Walk.{Walked, Behind, Cut}
+use Rattle.theory.specs.Cover.{Label}
 use Rattle.theory.specs.Evidence.{peak, InD, Outside, Evidence, DistinctFanins}
 use Rattle.theory.proofs.Members.{at-most-greatest, greatest-at-most}
 use Rattle.theory.proofs.Picks.{map-agree}
 use Rattle.theory.proofs.Walks.{Tight, met-behind, met-node, reader-is-gate, input-or-gate}
 use Rattle.theory.proofs.Cuts.{cut-of-fanins}
 use Rattle.theory.proofs.Bounds.{ZeroAtInputs}
-use Rattle.theory.proofs.Labels.{Peaked, LocalRule, LocalRules, peaked-rises}
+use Rattle.theory.proofs.Labels.{Peaked, LocalRule, LocalRules, peaked-rises, rules-are-labels}
 use Rattle.theory.proofs.Duality.{NeverFalls, behind-low, evidence-is-tight}
 
 -- The rule rests on the numbers behind
 
 module _ {net : Net} {lab mab : ℕ → ℕ} {t : ℕ} (agree : (v : ℕ) → Behind net t v → lab v ≡ mab v) where
-  peak-agrees : peak net lab t ≡ peak net mab t
+  pub peak-agrees : peak net lab t ≡ peak net mab t
   unfolding peak
   peak-agrees = ap greatest (map-agree lab mab (net .fanins t) (λ v m. agree v (record { reader = t; walked = Walked.start; feeds = m })))
 
-  d-agrees : {v : ℕ} → InD net lab t v → InD net mab t v
+  pub d-agrees : {v : ℕ} → InD net lab t v → InD net mab t v
   d-agrees InD.self = InD.self
   d-agrees {v} (InD.behind gate b e) = InD.behind gate b (sym (agree v b) ∙ e ∙ peak-agrees)
 
@@ -93,27 +94,33 @@ pub peaked-never-fall : {net : Net} {k : ℕ} {lab : ℕ → ℕ} {t : ℕ} → 
 peaked-never-fall {net} {lab = lab} bounded node peaked g u b fanin =
     peaked-rises net lab g (peaked g (reader-is-gate bounded (met-node bounded node b) fanin) b) fanin
 
-pub rule-of-evidence : {net : Net} {k : ℕ} {lab : ℕ → ℕ} {t m : ℕ} {leaves : List ℕ} → Bounded net k → Gate net t → NeverFalls net lab t →
-    Cut net k t leaves → suc (greatest (map lab leaves)) ≤ m → Peaked net lab t m →
-    (m ≡ suc (peak net lab t) → 1 ≤ peak net lab t → (paths : List (List ℕ)) × Evidence net k lab t paths) → LocalRule net k lab t m leaves
-rule-of-evidence bounded gate never-falls cut shown peaked evidence =
-    record {
-      cut = cut;
-      shown = shown;
-      peaked = peaked;
-      tight = λ above some. evidence-is-tight never-falls bounded (gate .below) (evidence above some .1);
-    }
+-- The line of gate t in a sheet, its label, leaves and paths, passes rules 25, 26 and 27; but that paths are not "given when not due" is no
+-- part of it, since no label rests on that.
+pub record Line (net : Net) (k : ℕ) (lab : ℕ → ℕ) (t : ℕ) (leaves : List ℕ) (paths : List (List ℕ)) : Type 0 where
+  pub cut : Cut net k t leaves
+  pub depth : lab t ≡ suc (greatest (map lab leaves))
+  pub near : Peaked net lab t (lab t)
+  pub shown : lab t ≡ suc (peak net lab t) → 1 ≤ peak net lab t → Evidence net k lab t paths
 
--- so numbers shown by cuts and evidence at every gate, as the inspector finds them, keep the local rules
-pub rules-of-evidence : {net : Net} {k : ℕ} {lab : ℕ → ℕ} {choice : ℕ → List ℕ} → Bounded net k → ZeroAtInputs net lab →
-    ((t : ℕ) → Gate net t → Cut net k t (choice t)) → ((t : ℕ) → Gate net t → lab t ≡ suc (greatest (map lab (choice t)))) →
-    ((t : ℕ) → Gate net t → Peaked net lab t (lab t)) →
-    ((t : ℕ) → Gate net t → lab t ≡ suc (peak net lab t) → 1 ≤ peak net lab t → (paths : List (List ℕ)) × Evidence net k lab t paths) →
-    LocalRules net k lab choice
-rules-of-evidence bounded zeros cuts shown peaked evidence =
-    record {
-      inputs = zeros;
-      gates = λ t gate.
-          rule-of-evidence bounded gate (peaked-never-fall bounded (gate .below) (λ g h _. peaked g h)) (cuts t gate)
-          (let e = shown t gate in omega arith) (peaked t gate) (evidence t gate);
-    }
+pub record Lines (net : Net) (k : ℕ) (lab : ℕ → ℕ) (leaves : ℕ → List ℕ) (paths : ℕ → List (List ℕ)) : Type 0 where
+  pub inputs : ZeroAtInputs net lab
+  pub gates : (t : ℕ) → Gate net t → Line net k lab t (leaves t) (paths t)
+
+module _ {net : Net} {k : ℕ} {lab : ℕ → ℕ} {leaves : ℕ → List ℕ} {paths : ℕ → List (List ℕ)} (bounded : Bounded net k) (lines : Lines net k lab leaves paths) where
+  pub rules-of-evidence : LocalRules net k lab leaves
+  rules-of-evidence = record { inputs = lines .inputs; gates = rule }
+    where
+      rule : (t : ℕ) → Gate net t → LocalRule net k lab t (lab t) (leaves t)
+      rule t gate =
+          let line = lines .gates t gate in
+          let never-falls = peaked-never-fall bounded (gate .below) (λ g h _. lines .gates g h .near) in
+          record {
+            cut = line .cut;
+            shown = omega (arith, line .depth);
+            peaked = line .near;
+            tight = λ above some. evidence-is-tight never-falls bounded (gate .below) (line .shown above some);
+          }
+
+  -- so the numbers are the labels
+  pub lines-are-labels : Ranked net → (outputs : List ℕ) (v : ℕ) → v < net .nodes → Label net k outputs v (lab v)
+  lines-are-labels ranked = rules-are-labels bounded ranked rules-of-evidence

@@ -58,11 +58,11 @@ module _ (reads : ℕ → List ℕ) (tables rank : ℕ → ℕ) (Driven : ℕ �
 -- The value at v of the valuation that follows at the nodes that are driven and has the setting at the others; the first number bounds how
 -- far back it reads.
 module _ (reads : ℕ → List ℕ) (tables : ℕ → ℕ) (driven setting : ℕ → Bool) where
-  valueWithin : ℕ → ℕ → Bool
+  unfoldable pub valueWithin : ℕ → ℕ → Bool
   valueWithin zero v = setting v
   valueWithin (suc far) v = cond (driven v) (resultAt (tables v) (rowOf (map (valueWithin far) (reads v)))) (setting v)
 
-pub settle : (reads : ℕ → List ℕ) (tables rank : ℕ → ℕ) (driven setting : ℕ → Bool) → ℕ → Bool
+unfoldable pub settle : (reads : ℕ → List ℕ) (tables rank : ℕ → ℕ) (driven setting : ℕ → Bool) → ℕ → Bool
 settle reads tables rank driven setting v = valueWithin reads tables driven setting (suc (rank v)) v
 
 cond-agrees : (b d : Bool) {a c : Bool} → (b ≡ true → a ≡ c) → cond b a d ≡ cond b c d

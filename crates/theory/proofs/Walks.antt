@@ -1,7 +1,7 @@
 -- Walks: a walk goes on from any node that it walks, so leaves that stop it stop it from there too, and what a gate of the cone reads is a leaf
--- or in the cone. Ranks fall on the way, so a ranked net has no loop, and what is walked or met is decided.
+-- or in the cone. Ranks fall on the way, so a ranked net has no loop, and what is walked is decided.
 use Prim.Native.Nat.{ℕ, _≤_, _<_}
-use native.Mathlib.Decide.{decLt, decLe, map-dec}
+use native.Mathlib.Decide.{decLt, map-dec}
 use native.Mathlib.Omega.{arith}
 use mathlib.Core.Path.{_≡_, refl, subst}
 use mathlib.Core.Logic.{_⊎_, inl, inr, ⊎-elim, Dec·not}
@@ -11,7 +11,9 @@ use Rattle.theory.specs.Net.{Net, Gate, Input}
 use Rattle.theory.specs.Sound.{Bounded, Ranked}
 use Rattle.theory.specs.Walk.{Walked, Met, Behind, Loop, Cut, Cone}
 use Rattle.theory.specs.Evidence.{Outside}
-use Rattle.theory.proofs.Decisions.{decide-both, decide-member, decide-some-below}
+use Rattle.theory.proofs.Tests.{decided}
+use Rattle.theory.proofs.Decisions.{decide-member}
+use Rattle.theory.proofs.DecideNet.{decides-gate}
 use Rattle.theory.proofs.Leads.{Leads, decide-leads}
 
 -- What a gate reads are nodes: the field `nodes` of `Bounded`.
@@ -94,6 +96,11 @@ module _ {net : Net} where
       after (inl e) = inr (w, subst (λ (x : ℕ). List·Memᴰ w (net .fanins x)) e m)
       after (inr fanin) = inr fanin
 
+  -- so has one with something behind it
+  pub behind-fanin : {u v : ℕ} → Behind net u v → (w : ℕ) × List·Memᴰ w (net .fanins u)
+  behind-fanin {u} {v} b =
+      ⊎-elim (λ (e : b .reader ≡ u). (v, subst (λ (x : ℕ). List·Memᴰ v (net .fanins x)) e (b .feeds))) (λ fanin. fanin) (walk-goes-on (b .walked))
+
   -- Ranks
 
   module _ (ranked : Ranked net) where
@@ -121,9 +128,7 @@ module _ {net : Net} where
   gate-no-input g i = omega arith
 
   pub decide-gate : (v : ℕ) → Dec (Gate net v)
-  decide-gate v =
-      map-dec (λ both. record { above = both .0; below = both .1 }) (λ g. (g .above, g .below))
-      (decide-both (decLe (net .inputs) v) (λ _. decLt v (net .nodes)))
+  decide-gate v = decided (decides-gate net v)
 
   module _ {k : ℕ} (bounded : Bounded net k) where
     pub reader-is-gate : {u v : ℕ} → v < net .nodes → List·Memᴰ u (net .fanins v) → Gate net v
@@ -173,13 +178,3 @@ module _ {net : Net} where
         map-dec walk-of-lead lead-of-walk
         (decide-leads (net .fanins) (NoLeaf leaves) (λ u. Dec·not (decide-member u leaves)) (ranked .rank) t
         (λ w u _ m _. ranked .rises u w m) v)
-
-    module _ {k : ℕ} (bounded : Bounded net k) where
-      pub decide-met : (leaves : List ℕ) (t : ℕ) → t < net .nodes → (v : ℕ) → Dec (Met net leaves t v)
-      decide-met leaves t node v =
-          map-dec (λ found. record { reader = found .0; walked = found .2 .0; feeds = found .2 .1 })
-          (λ (m : Met net leaves t v). (m .reader, walked-node bounded node (m .walked), (m .walked, m .feeds)))
-          (decide-some-below Reads (net .nodes) (λ g. decide-both (decide-walked leaves t g) (λ _. decide-member v (net .fanins g))))
-        where
-          Reads : ℕ → Type 0
-          Reads g = Walked net leaves t g × List·Memᴰ v (net .fanins g)

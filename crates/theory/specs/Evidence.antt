@@ -36,11 +36,12 @@ pub record TruePath (net : Net) (lab : ℕ → ℕ) (t : ℕ) (path : List ℕ) 
   pub behind : (v : ℕ) → List·Memᴰ v path → Behind net t v
   pub outside : Outside net lab t path
 
+-- the nodes of all the paths, one path after the other
 unfoldable pub joined : List (List ℕ) → List ℕ
 joined [] = []
 joined (path ∷ paths) = path ++ joined paths
 
--- "K + 1 paths. .. No node is on two paths or twice on one."
+-- "K + 1 paths. .. No node is on two paths or twice on one." That p is at least 1 is no part of it: who asks for evidence says when it is due.
 pub record Evidence (net : Net) (k : ℕ) (lab : ℕ → ℕ) (t : ℕ) (paths : List (List ℕ)) : Type 0 where
   pub count : length paths ≡ suc k
   pub each : (path : List ℕ) → List·Memᴰ path paths → TruePath net lab t path

@@ -4,7 +4,7 @@ use mathlib.Core.Path.{_≡_}
 use mathlib.Core.Bool.{Bool, true}
 use mathlib.Core.List.{List, map}
 use lib.ListN.{length}
-use Rattle.theory.specs.Net.{Net, Gate, Input}
+use Rattle.theory.specs.Net.{Net}
 use Rattle.theory.specs.Values.{rowOf, resultAt}
 use Rattle.theory.specs.Walk.{Cone}
 use Rattle.theory.specs.Cover.{Luts}
@@ -14,6 +14,7 @@ abbrev pub ObeysCone : Net → (tables : ℕ → ℕ) → List ℕ → ℕ → (
 ObeysCone net tables leaves t x = (g : ℕ) → Cone net leaves t g → x g ≡ resultAt (tables g) (rowOf (map x (net .fanins g)))
 
 -- "The cone's function is t's value for each setting of the leaves": its table, with leaf i as bit i of the row and nothing set above the rows.
+-- On a net without loops each setting has a valuation that obeys the cone, so `value` speaks of every row.
 pub record ConeTable (net : Net) (tables : ℕ → ℕ) (leaves : List ℕ) (t table : ℕ) : Type 0 where
   pub value : (x : ℕ → Bool) → ObeysCone net tables leaves t x → x t ≡ resultAt table (rowOf (map x leaves))
   pub rows : table < 2 ^ (2 ^ length leaves)

@@ -6,6 +6,7 @@ use mathlib.Core.List.{List, [], _∷_, map}
 use lib.Dec.{eqb}
 use Rattle.theory.specs.Net.{Net, Gate}
 
+-- a value as a digit
 abbrev pub bit : Bool → ℕ
 bit true = 1
 bit false = 0

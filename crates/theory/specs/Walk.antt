@@ -25,7 +25,7 @@ abbrev pub Loop : Net → ℕ → Type 0
 Loop net g = Behind net g g
 
 -- "The leaves are a cut of t if the walk meets no input that is not a leaf, meets every leaf, and there are 1 to K leaves."
--- A set of leaves is written as its rising list.
+-- A set of leaves is written as its rising list. Only on nets without loops is this the paper's cut: on a loop a gate could be its own leaf.
 pub record Cut (net : Net) (k t : ℕ) (leaves : List ℕ) : Type 0 where
   pub stops : (v : ℕ) → Met net leaves t v → Input net v → List·Memᴰ v leaves
   pub met : (v : ℕ) → List·Memᴰ v leaves → Met net leaves t v

@@ -45,15 +45,19 @@ pub fn paper() -> Vec<Drawing> {
     ]
 }
 
+/// The paper's drawing of a name.
+pub fn named(name: &str) -> Table {
+    let found = paper().into_iter().find(|drawing| drawing.name == name);
+    found.expect("the paper has it").table
+}
+
 #[cfg(test)]
 mod tests {
     use super::*;
     use crate::table::read;
 
     fn bytes_of(name: &str) -> Vec<u8> {
-        let drawings = paper();
-        let found = drawings.iter().find(|drawing| drawing.name == name);
-        found.expect("the paper has it").table.bytes()
+        named(name).bytes()
     }
 
     #[test]

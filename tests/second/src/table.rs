@@ -199,22 +199,22 @@ pub fn row_mask(fanins: usize) -> u64 {
 
 /// The bytes and the start of the field that is being read. The start is the place of every
 /// refusal of that field, so it moves only once the field is read whole.
-struct Fields<'a> {
-    bytes: &'a [u8],
-    start: usize,
+pub(crate) struct Fields<'a> {
+    pub(crate) bytes: &'a [u8],
+    pub(crate) start: usize,
 }
 
 impl<'a> Fields<'a> {
-    fn bytes_left(&self) -> usize {
+    pub(crate) fn bytes_left(&self) -> usize {
         self.bytes.len() - self.start
     }
 
-    fn refusal(&self, fault: Fault) -> Refusal {
+    pub(crate) fn refusal(&self, fault: Fault) -> Refusal {
         Refusal { fault, place: self.start }
     }
 
     /// The first two tests of every field: that its tag and length are there, and the tag.
-    fn begin(&self, tag_due: u8) -> Result<(), Refusal> {
+    pub(crate) fn begin(&self, tag_due: u8) -> Result<(), Refusal> {
         if self.bytes_left() < START_BYTES {
             return Err(self.refusal(Fault::Torn));
         }
@@ -225,7 +225,7 @@ impl<'a> Fields<'a> {
     }
 
     /// The value of a field that has begun, of the length that the field itself gives.
-    fn value(&self) -> Result<&'a [u8], Refusal> {
+    pub(crate) fn value(&self) -> Result<&'a [u8], Refusal> {
         let high = usize::from(self.bytes[self.start + 1]);
         let low = usize::from(self.bytes[self.start + 2]);
         let begin = self.start + START_BYTES;
@@ -233,7 +233,7 @@ impl<'a> Fields<'a> {
     }
 
     /// Goes on to the next field.
-    fn pass(&mut self, value: &[u8]) {
+    pub(crate) fn pass(&mut self, value: &[u8]) {
         self.start += START_BYTES + value.len();
     }
 }

@@ -1,0 +1,135 @@
+//! What the two programs print.
+
+use crate::graph::Graph;
+use crate::inspect::inspect;
+use crate::mapping::{depths, Lut};
+use crate::sheet::{mapped, BUFFER_LIMIT};
+use crate::Refused;
+
+/// The programs read no more of a gate table than this.
+pub const TABLE_BYTES: usize = 4_096;
+/// The inspector's program reads no more of a sheet than this.
+pub const SHEET_BYTES: usize = BUFFER_LIMIT;
+
+/// What the lister prints when this is its standard input.
+pub fn listing(standard_input: &[u8]) -> String {
+    match Graph::read(first(standard_input, TABLE_BYTES)) {
+        Ok(graph) => lines(&graph).concat(),
+        Err(refused) => refusal_line(refused),
+    }
+}
+
+/// What the inspector's program prints when these are its files. A file that cannot be opened
+/// counts as empty.
+pub fn inspector_line(net: &[u8], sheet: &[u8]) -> String {
+    match inspect(first(net, TABLE_BYTES), first(sheet, SHEET_BYTES)) {
+        Ok(depth) => format!("accepted depth {depth}\n"),
+        Err(refused) => refusal_line(refused),
+    }
+}
+
+fn first(bytes: &[u8], most: usize) -> &[u8] {
+    &bytes[..bytes.len().min(most)]
+}
+
+fn refusal_line((number, place): Refused) -> String {
+    format!("refused {number} at {place}\n")
+}
+
+fn lines(graph: &Graph) -> Vec<String> {
+    let sheet = mapped(graph);
+    let depths = depths(graph, &sheet.luts);
+    let depth_at = |node: usize| depths[node].expect("it is an input or a root");
+    let head = format!(
+        "K {} inputs {} gates {} luts {} depth {}\n",
+        graph.k(),
+        graph.table.inputs,
+        graph.gates().len(),
+        sheet.luts.len(),
+        sheet.depth
+    );
+    let luts = sheet.luts.iter().map(|lut| lut_line(lut, depth_at(lut.root)));
+    let outputs = graph.table.outputs.iter();
+    let outputs = outputs.map(|&node| format!("output {node} depth {}\n", depth_at(node)));
+    [head].into_iter().chain(luts).chain(outputs).collect()
+}
+
+fn lut_line(lut: &Lut, depth: usize) -> String {
+    let leaves: Vec<String> = lut.leaves.iter().map(usize::to_string).collect();
+    let leaves = leaves.join(" ");
+    format!("lut {} depth {depth} leaves {leaves} table {:016X}\n", lut.root, lut.rows)
+}
+
+#[cfg(test)]
+mod tests {
+    use super::*;
+    use crate::drawings::named;
+    use crate::sheet::map;
+    use crate::table::{field, head_field, Table};
+
+    #[test]
+    fn the_listing_of_p1() {
+        let by_hand = "\
+K 3 inputs 4 gates 3 luts 3 depth 2
+lut 4 depth 1 leaves 0 1 table 0000000000000008
+lut 5 depth 1 leaves 2 3 table 0000000000000008
+lut 6 depth 2 leaves 4 5 table 000000000000000E
+output 6 depth 2
+";
+        assert_eq!(listing(&named("P1").bytes()), by_hand);
+    }
+
+    #[test]
+    fn listings_of_the_paper() {
+        let p2 = "K 4 inputs 4 gates 3 luts 1 depth 1\n\
+                  lut 6 depth 1 leaves 0 1 2 3 table 000000000000F888\n\
+                  output 6 depth 1\n";
+        assert_eq!(listing(&named("P2").bytes()), p2);
+        let p7 = "K 2 inputs 1 gates 0 luts 0 depth 0\noutput 0 depth 0\n";
+        assert_eq!(listing(&named("P7").bytes()), p7);
+        assert_eq!(listing(&named("P8").bytes()), "refused 7 at 1\n");
+        assert_eq!(listing(&named("P9").bytes()), "refused 7 at 2\n");
+        assert_eq!(listing(&[]), "refused 1 at 0\n");
+    }
+
+    #[test]
+    fn outputs_stand_in_file_order() {
+        let outputs = vec![6, 0, 4, 6];
+        let table = Table { outputs, ..named("P1") };
+        let text = listing(&table.bytes());
+        let lines: Vec<&str> = text.lines().skip(4).collect();
+        let by_hand =
+            ["output 6 depth 2", "output 0 depth 0", "output 4 depth 1", "output 6 depth 2"];
+        assert_eq!(lines, by_hand);
+    }
+
+    #[test]
+    fn the_lines_of_the_inspectors_program() {
+        let net = named("P1").bytes();
+        let sheet = map(&net, BUFFER_LIMIT).unwrap();
+        assert_eq!(inspector_line(&net, &sheet), "accepted depth 2\n");
+        let mut false_sheet = sheet;
+        false_sheet[31] = 1;
+        assert_eq!(inspector_line(&net, &false_sheet), "refused 27 at 6\n");
+        assert_eq!(inspector_line(&net, &[]), "refused 21 at 0\n");
+        assert_eq!(inspector_line(&[], &[]), "refused 1 at 0\n");
+    }
+
+    #[test]
+    fn only_the_first_bytes_are_read() {
+        let net = named("P7").bytes();
+        let mut long_sheet = map(&net, BUFFER_LIMIT).unwrap();
+        long_sheet.resize(SHEET_BYTES + 1, 0);
+        assert_eq!(inspector_line(&net, &long_sheet), "refused 31 at 6\n");
+        let too_long = vec![0; SHEET_BYTES];
+        // The whole of such a gate is too long; what the program reads of it is torn.
+        let long_net = [head_field(2, 1, 1), field(2, &too_long[..TABLE_BYTES])].concat();
+        assert_eq!(Graph::read(&long_net).unwrap_err(), (3, 7));
+        assert_eq!(listing(&long_net), "refused 1 at 7\n");
+        assert_eq!(inspector_line(&long_net, &[]), "refused 1 at 7\n");
+        let p6 = named("P6").bytes();
+        let long_line = [field(16, &[1, 1, 1]), field(17, &too_long)].concat();
+        assert_eq!(inspect(&p6, &long_line), Err((23, 6)));
+        assert_eq!(inspector_line(&p6, &long_line), "refused 21 at 6\n");
+    }
+}
