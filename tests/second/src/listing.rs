@@ -65,7 +65,7 @@ mod tests {
     use super::*;
     use crate::drawings::named;
     use crate::sheet::map;
-    use crate::table::{field, head_field, Table};
+    use crate::table::{field, head_field, Gate, Table};
 
     #[test]
     fn the_listing_of_p1() {
@@ -90,6 +90,19 @@ output 6 depth 2
         assert_eq!(listing(&named("P8").bytes()), "refused 7 at 1\n");
         assert_eq!(listing(&named("P9").bytes()), "refused 7 at 2\n");
         assert_eq!(listing(&[]), "refused 1 at 0\n");
+    }
+
+    /// Whoever evaluates cones by recursion without memory never comes to the end of this.
+    #[test]
+    fn a_chain_of_191_doubled_gates() {
+        let gates = (0..191).map(|before| Gate { fanins: vec![before, before], rows: 0x8 });
+        let table = Table { k: 2, inputs: 1, gates: gates.collect(), outputs: vec![191] };
+        let text = "K 2 inputs 1 gates 191 luts 1 depth 1\n\
+                    lut 191 depth 1 leaves 0 table 0000000000000002\n\
+                    output 191 depth 1\n";
+        assert_eq!(listing(&table.bytes()), text);
+        let sheet = map(&table.bytes(), BUFFER_LIMIT).unwrap();
+        assert_eq!(inspector_line(&table.bytes(), &sheet), "accepted depth 1\n");
     }
 
     #[test]

@@ -2,7 +2,7 @@
 
 use crate::table::NODE_LIMIT;
 use std::fmt;
-use std::iter::{from_fn, FromIterator};
+use std::iter::from_fn;
 
 const WORD_BITS: usize = 64;
 

@@ -116,7 +116,7 @@ fn paths_hold(
 fn back_from(graph: &Graph, node: usize, before: &[usize]) -> Option<usize> {
     before.iter().rev().try_fold(node, |reader, &fanin| {
         let is_fanin = graph.fanins(reader).contains(&fanin);
-        is_fanin.then(|| fanin)
+        is_fanin.then_some(fanin)
     })
 }
 
@@ -126,7 +126,7 @@ fn lut_fault(graph: &Graph, lut: &Lut) -> Option<u32> {
     }
     let rows = 1 << lut.leaves.len();
     let row_holds = |row: usize| bit(lut.rows, row) == (row < rows && value(graph, lut, row));
-    (!(0..64).all(row_holds)).then(|| 29)
+    (!(0..64).all(row_holds)).then_some(29)
 }
 
 /// The root's value when the leaves have the row's bits.

@@ -198,7 +198,7 @@ fn parse_line(value: &[u8]) -> Option<Line> {
     let leaves = take_counted(&mut left)?;
     let path_count = take_byte(&mut left)?;
     let paths = (0..path_count).map(|_| take_counted(&mut left)).collect::<Option<_>>()?;
-    left.is_empty().then(|| Line { label, leaves, paths })
+    left.is_empty().then_some(Line { label, leaves, paths })
 }
 
 /// The LUT whose own count uses the value up exactly.
@@ -226,7 +226,7 @@ fn take_counted(left: &mut &[u8]) -> Option<Vec<usize>> {
 mod tests {
     use super::*;
     use crate::drawings::{named, paper};
-    use crate::table::{head_field, output_field};
+    use crate::table::{gate_field, head_field, output_field, NODE_LIMIT};
 
     fn sheet_bytes(name: &str) -> Vec<u8> {
         map(&named(name).bytes(), BUFFER_LIMIT).unwrap()
@@ -272,6 +272,33 @@ mod tests {
         assert!(map(&named("P1").bytes(), BUFFER_LIMIT).is_ok());
         let k_of_7 = [head_field(7, 1, 0), output_field(0)].concat();
         assert_eq!(map(&k_of_7, BUFFER_LIMIT), Err((4, 0)));
+    }
+
+    #[test]
+    fn the_papers_limits() {
+        let reply = |k: u8, inputs: u8, gates: u8, outputs: usize, buffer_length: usize| {
+            let mut bytes = head_field(k, inputs, gates);
+            (0..gates).for_each(|_| bytes.extend(gate_field(&[0], 1)));
+            (0..outputs).for_each(|_| bytes.extend(output_field(0)));
+            map(&bytes, buffer_length).map(|_| ())
+        };
+        assert_eq!(reply(6, 1, 1, 1, BUFFER_LIMIT), Ok(()));
+        assert_eq!(reply(7, 1, 1, 1, BUFFER_LIMIT), Err((4, 0)));
+        assert_eq!(reply(2, 64, 128, 1, BUFFER_LIMIT), Ok(()));
+        assert_eq!(reply(2, 64, 129, 1, BUFFER_LIMIT), Err((4, 0)));
+        assert_eq!(reply(2, 1, 0, 64, BUFFER_LIMIT), Ok(()));
+        assert_eq!(reply(2, 1, 0, 65, BUFFER_LIMIT), Err((6, 263)));
+        assert_eq!(reply(2, 1, 0, 1, 49_152), Ok(()));
+        assert_eq!(reply(2, 1, 0, 1, 49_151), Err((8, 49_152)));
+    }
+
+    /// No acceptable sheet is longer than this: a line has at most 6 leaves and 7 paths, which
+    /// miss the gate and a fanin of label p.
+    #[test]
+    fn the_longest_sheet() {
+        let line = 3 + 1 + 1 + 6 + 1 + 7 + (NODE_LIMIT - 2);
+        let lut = 3 + 1 + 1 + 6 + 8;
+        assert_eq!(6 + (NODE_LIMIT - 1) * (line + lut), SHEET_LIMIT);
     }
 
     /// The rules of pass one on P1's sheet with one field in another's place.
