@@ -113,6 +113,17 @@ module _ (a : Lines) (k inputs : ℕ) (gs : List GateLine) (sound : SoundLines k
       ∙ stored-at (sets (a .count) 0 (replicate inputs 0)) inputs (map sizeOf gs) i (rw length-map h) (rw (length-map, length-sets) count-long)
       ∙ List·getD-map sizeOf gs i noGate
 
+  counts-small : (v : ℕ) → v < inputs + length gs → getD (after .count) v 0 ≤ 6
+  counts-small v h = by (ltb v inputs) refl
+    where
+      by : (b : Bool) → ltb v inputs ≡ b → getD (after .count) v 0 ≤ 6
+      by true e = omega (arith, input-count v (ltb-true v inputs e))
+      by false e =
+          let high : inputs ≤ v = ltb-false v inputs e in
+          let inside : v - inputs < length gs = omega arith in
+          let same : inputs + (v - inputs) ≡ v = omega arith in
+          omega (arith, line-of gs sound (v - inputs) inside .few, gate-count (v - inputs) inside, ap (λ (w : ℕ). getD (after .count) w 0) same)
+
   gate-rows : (i : ℕ) → i < length gs → getD (after .rows) (inputs + i) 0 ≡ getD gs i noGate .table
   unfolding after
   gate-rows i h =
@@ -202,6 +213,7 @@ pub record Holds (s : List ℕ) (after : Arrays) : Type 0 where
   pub tables : (v : ℕ) → Gate (netOf (tableOf s)) v → tablesIn (after .lines .rows) v ≡ tablesOf (tableOf s) v
   pub outputs : take (length (found s .outputs)) (after .outputs) ≡ found s .outputs
   pub bounded : Bounded (netOf (tableOf s)) (headK s)
+  pub six : (v : ℕ) → v < nodesOf s → getD (after .lines .count) v 0 ≤ 6
 
 pub whole-holds : (a : Arrays) (s : List ℕ) → enough a ≡ true → found s .verdict ≡ Sound → Holds s (filled a s)
 unfolding filled after table
@@ -231,4 +243,5 @@ whole-holds a s long ruled =
       tables = tables-held (a .lines) (headK s) inputs gs lines six fan-long count-long rows-long outs;
       outputs = stored-front (a .outputs) outs (omega (arith, room .outputs, sound .few));
       bounded = net-bounded (a .lines) (headK s) inputs gs lines six fan-long count-long rows-long outs;
+      six = λ v h. counts-small (a .lines) (headK s) inputs gs lines six fan-long count-long rows-long v (omega (arith, nodes));
     })

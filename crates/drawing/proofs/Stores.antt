@@ -8,7 +8,7 @@ use lib.ListN.{length, getD, set, take, drop, replicate, length-take, length-dro
 use lib.Seq.{sets}
 use Rattle.drawing.proofs.Digits.{take-more}
 
-sets-more : (l : List ℕ) (i : ℕ) (vs : List ℕ) (v : ℕ) → set (sets l i vs) (i + length vs) v ≡ sets l i (vs ++ (v ∷ []))
+pub sets-more : (l : List ℕ) (i : ℕ) (vs : List ℕ) (v : ℕ) → set (sets l i vs) (i + length vs) v ≡ sets l i (vs ++ (v ∷ []))
 sets-more l i [] v = ap (λ (j : ℕ). set l j v) (add-zero i)
 sets-more l i (a ∷ vs) v =
     ap (λ (j : ℕ). set (sets (set l i a) (suc i) vs) j v) (add-suc i (length vs) ∙ sym (suc-add i (length vs)))

@@ -6,6 +6,9 @@ use Rattle.drawing.specs.declared.Head.{Head}
 use Rattle.drawing.specs.declared.Refusal.{Refusal}
 use Rattle.drawing.specs.declared.Reading.{Reading}
 use Rattle.drawing.specs.declared.Reading.the-variants.{Whole, Refused, Lent}
+use Rattle.taking.specs.declared.Taking.{Taking}
+use Rattle.taking.specs.declared.Taking.the-variants.{Taken, LoopAt, Lent as TooShort, Refused as RefusedTable}
+use Rattle.taking.specs.Taking.{Takes}
 use Rattle.drawing.specs.Refusals.{number, place}
 use Rattle.drawing.specs.Reading.{Arrays, reading, filled}
 
@@ -30,3 +33,15 @@ pub record SmallNumbers (h : Head) (outputs : ℕ) : Type 0 where
 pub record ReadsAs (before : Arrays) (s : List ℕ) (w : ℕ) (after : Arrays) : Type 0 where
   pub reply : w ≡ readingWord (reading before s)
   pub arrays : after ≡ filled before s
+
+-- "7 Loop: lowest such gate"
+abbrev pub takingWord : Taking → ℕ
+takingWord (Taken h outputs) = wholeWord h outputs
+takingWord (RefusedTable r) = refusalWord r
+takingWord (LoopAt gate) = 7 * 4294967296 + gate .id
+takingWord TooShort = 255 * 4294967296
+
+pub record TakesAs (before : Arrays) (order₀ marks₀ s : List ℕ) (w : ℕ) (after : Arrays) (order marks : List ℕ) : Type 0 where
+  pub taking : Taking
+  pub reply : w ≡ takingWord taking
+  pub takes : Takes before order₀ marks₀ s taking after order marks

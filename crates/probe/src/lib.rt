@@ -2,10 +2,11 @@
 use drawing::Head;
 use drawing::Reading;
 use drawing::Refusal;
+use taking::Taking;
 ghost use mathlib.Core.Path.{_≡_};
 ghost use Rattle.drawing.specs.Refusals.{number, place};
 ghost use Rattle.drawing.specs.Reading.{arraysOf};
-ghost use Rattle.probe.specs.Words.{refusalWord, wholeWord, SmallNumbers, ReadsAs};
+ghost use Rattle.probe.specs.Words.{refusalWord, wholeWord, SmallNumbers, ReadsAs, TakesAs};
 
 fn number_of(r: Refusal) -> u64
     ensures { λ w. ⌜ w ≡ number r ⌝ }
@@ -72,5 +73,27 @@ pub extern "C" fn probe_read(
         Reading::Whole(head, number) => whole_word(head, number),
         Reading::Refused(r) => refusal_word(r),
         Reading::Lent => 1095216660480,
+    }
+}
+
+// `taking::take_table`, with its reply as a word.
+#[no_mangle]
+pub extern "C" fn probe_take(
+    table: &[u8],
+    fan: &mut [u16],
+    count: &mut [u8],
+    rows: &mut [u64],
+    outputs: &mut [u16],
+    order: &mut [u16],
+    marks: &mut [u8],
+) -> u64
+    ensures { λ w. ⌜ TakesAs (arraysOf (now (fan .entry)) (now (count .entry)) (now (rows .entry)) (now (outputs .entry))) (now (order .entry)) (now (marks .entry)) (now (table .entry)) w (arraysOf (now (fan .exit)) (now (count .exit)) (now (rows .exit)) (now (outputs .exit))) (now (order .exit)) (now (marks .exit)) ⌝ }
+{
+    let reply = taking::take_table(table, fan, count, rows, outputs, order, marks);
+    match reply {
+        Taking::Taken(head, number) => whole_word(head, number),
+        Taking::Refused(r) => refusal_word(r),
+        Taking::LoopAt(gate) => 30064771072 + gate.id as u64,
+        Taking::Lent => 1095216660480,
     }
 }

@@ -7,6 +7,7 @@ mod drawn;
 mod probe;
 mod random;
 mod reading;
+mod taking;
 
 use std::env;
 use std::process::ExitCode;
@@ -31,7 +32,7 @@ impl Size {
 /// Compares one subject, from a seed, and says what differs.
 type Subject = fn(Size, u64) -> Result<(), String>;
 
-const SUBJECTS: [(&str, Subject); 1] = [("reading", reading::compare)];
+const SUBJECTS: [(&str, Subject); 2] = [("reading", reading::compare), ("taking", taking::compare)];
 
 const USUAL_SEED: u64 = 20_231_117;
 

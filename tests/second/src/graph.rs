@@ -13,22 +13,32 @@ pub fn fanins(table: &Table, node: usize) -> &[usize] {
     }
 }
 
-/// The nodes that are met by going from a node to its fanins, to theirs, and so on. The node
-/// itself is one of them only if it is on a loop.
-pub fn behind(table: &Table, node: usize) -> NodeSet {
-    let mut met = NodeSet::default();
-    let mut due = fanins(table, node).to_vec();
-    while let Some(next) = due.pop() {
-        if met.insert(next) {
-            due.extend(fanins(table, next));
+/// For each node, the nodes that are met by going to its fanins, to theirs, and so on. The node
+/// itself is one of them only if it is on a loop. Sweeps over the gates go on until one finds
+/// nothing new.
+pub fn behind(table: &Table) -> Vec<NodeSet> {
+    let mut behind = vec![NodeSet::default(); table.inputs + table.gates.len()];
+    loop {
+        let before = behind.clone();
+        for gate in gates(table) {
+            for &fanin in fanins(table, gate) {
+                behind[gate].insert(fanin);
+                behind[gate] = behind[gate].union(behind[fanin]);
+            }
+        }
+        if behind == before {
+            return behind;
         }
     }
-    met
 }
 
 /// The lowest gate that reaches itself along fanins, wherever it stands in the drawing.
 pub fn lowest_loop(table: &Table) -> Option<usize> {
-    gates(table).find(|&gate| behind(table, gate).contains(gate))
+    lowest_behind_itself(&behind(table))
+}
+
+fn lowest_behind_itself(behind: &[NodeSet]) -> Option<usize> {
+    (0..behind.len()).find(|&node| behind[node].contains(node))
 }
 
 fn gates(table: &Table) -> Range<usize> {
@@ -46,9 +56,8 @@ pub struct Graph {
 impl Graph {
     /// The graph of a table, or the lowest gate on a loop.
     pub fn new(table: Table) -> Result<Graph, usize> {
-        let nodes = table.inputs + table.gates.len();
-        let behind: Vec<NodeSet> = (0..nodes).map(|node| behind(&table, node)).collect();
-        if let Some(gate) = (0..nodes).find(|&node| behind[node].contains(node)) {
+        let behind = behind(&table);
+        if let Some(gate) = lowest_behind_itself(&behind) {
             return Err(gate);
         }
         // What is behind a fanin is behind its gate, and the fanin itself is one more.
@@ -112,6 +121,7 @@ impl Graph {
 mod tests {
     use super::*;
     use crate::drawings::{named, paper};
+    use crate::random::{shapes, Random};
     use crate::table::Gate;
 
     #[test]
@@ -139,6 +149,50 @@ mod tests {
         assert_eq!(graph.behind(0).list(), []);
         assert_eq!(graph.behind(6).list(), [0, 1, 4]);
         assert_eq!(graph.behind(9).list(), [0, 1, 2, 3, 4, 5, 6, 7, 8]);
+    }
+
+    /// The nodes met by a search from one node.
+    fn met_from(table: &Table, node: usize) -> NodeSet {
+        let mut met = NodeSet::default();
+        let mut due = fanins(table, node).to_vec();
+        while let Some(next) = due.pop() {
+            if met.insert(next) {
+                due.extend(fanins(table, next));
+            }
+        }
+        met
+    }
+
+    #[test]
+    fn sweeps_find_what_a_search_finds() {
+        let mut random = Random::seeded(8);
+        let mut loops = 0;
+        for _ in 0..1_000 {
+            let nodes = random.between(1, 60);
+            let table = shapes::any(nodes, &mut random);
+            let behind = behind(&table);
+            assert!((0..behind.len()).all(|node| behind[node] == met_from(&table, node)));
+            let looped = gates(&table).find(|&gate| met_from(&table, gate).contains(gate));
+            assert_eq!(lowest_loop(&table), looped);
+            loops += usize::from(looped.is_some());
+        }
+        assert!(loops > 50, "{loops}");
+    }
+
+    #[test]
+    fn an_order_has_each_gate_after_what_is_behind_it() {
+        let mut random = Random::seeded(9);
+        for _ in 0..300 {
+            let nodes = random.between(1, 60);
+            if let Ok(graph) = Graph::new(shapes::any(nodes, &mut random)) {
+                let mut known: NodeSet = (0..graph.table.inputs).collect();
+                for &gate in graph.order() {
+                    assert!(graph.fanin_set(gate).is_within(known));
+                    assert!(known.insert(gate));
+                }
+                assert_eq!(known.len(), graph.nodes());
+            }
+        }
     }
 
     #[test]

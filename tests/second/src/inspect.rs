@@ -118,6 +118,7 @@ mod tests {
     use crate::drawings::{named, paper};
     use crate::mapping::lut;
     use crate::sheet::mapped;
+    use crate::table::{Gate, Table};
 
     /// A drawing of the paper and its sheet, changed.
     fn changed(name: &str, change: impl FnOnce(&mut Sheet)) -> Result<usize, Refused> {
@@ -165,6 +166,25 @@ mod tests {
         assert_eq!(changed("P1", one_up), Err((26, 4)));
     }
 
+    /// A chain that is numbered backwards: 1 reads 2, 2 reads 3, 3 reads the input. The label of 1
+    /// is one more than that of its leaf 3 throughout, and must be p or p + 1 by the label of 2.
+    #[test]
+    fn rule_26_on_a_label_that_fits_its_leaves_alone() {
+        let reads = |node: usize| Gate { fanins: vec![node], rows: 1 };
+        let gates = vec![reads(2), reads(3), reads(0)];
+        let table = Table { k: 2, inputs: 1, gates, outputs: vec![1] };
+        let line =
+            |label: usize, leaf: usize| Line { label, leaves: vec![leaf], paths: Vec::new() };
+        let with_labels = |labels: [usize; 3]| {
+            let lines = vec![line(labels[0], 3), line(labels[1], 3), line(labels[2], 0)];
+            inspect(&table.bytes(), &Sheet { depth: 1, lines, luts: Vec::new() }.bytes())
+        };
+        assert_eq!(with_labels([4, 2, 3]), Err((26, 1)), "p is 2");
+        assert_eq!(with_labels([4, 5, 3]), Err((26, 1)), "p is 5");
+        assert_eq!(with_labels([4, 4, 3]), Err((27, 2)), "1 passes, and 2 wants evidence");
+        assert_eq!(with_labels([4, 3, 3]), Err((27, 1)), "1 wants evidence");
+    }
+
     #[test]
     fn rule_27() {
         assert_eq!(changed("P1", |sheet| sheet.lines[2].paths.clear()), Err((27, 6)));
@@ -187,6 +207,20 @@ mod tests {
         assert_eq!(changed("P1", |sheet| sheet.luts[1].rows = 0xE), Err((29, 5)));
         assert_eq!(changed("P1", |sheet| sheet.luts[1].rows |= 0x10), Err((29, 5)));
         assert_eq!(changed("P1", |sheet| sheet.luts[1].rows |= 1 << 63), Err((29, 5)));
+    }
+
+    #[test]
+    fn the_lowest_of_two_bad_gates_or_luts_is_named() {
+        let lines = |sheet: &mut Sheet| {
+            sheet.lines[0].paths = vec![vec![0]; 4];
+            sheet.lines[1].leaves = vec![0, 1];
+        };
+        assert_eq!(changed("P1", lines), Err((27, 4)));
+        let luts = |sheet: &mut Sheet| {
+            sheet.luts[1].rows = 0;
+            sheet.luts[2].leaves = vec![4];
+        };
+        assert_eq!(changed("P1", luts), Err((29, 5)));
     }
 
     #[test]

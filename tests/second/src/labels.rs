@@ -45,7 +45,7 @@ impl Labelled {
 /// The most cuts of a gate for which the mapper labels from cuts.
 pub const CUT_LIMIT: usize = 60;
 
-/// Labels from all cuts where these are few, and from the flow where they are many.
+/// Labels from the cuts where these are few, and from the flow where they are many.
 pub fn labelled(graph: &Graph) -> Labelled {
     match lean_cuts(graph, CUT_LIMIT) {
         Some(lists) => by_cuts(graph, &lists),
@@ -53,8 +53,8 @@ pub fn labelled(graph: &Graph) -> Labelled {
     }
 }
 
-/// From lists of each gate's cuts, all or only the lean: a least depth is never that of a cut
-/// that contains a smaller one only, and neither is a fewest number of leaves.
+/// From lists of each gate's cuts. The lean ones are enough, since a cut that contains a smaller
+/// one has more leaves and no lower ones.
 pub fn by_cuts(graph: &Graph, lists: &CutLists) -> Labelled {
     Labelled::by_rule(graph, |labels, gate| {
         let label = least_depth(labels, &lists[gate]);

@@ -64,6 +64,7 @@ fn lut_line(lut: &Lut, depth: usize) -> String {
 mod tests {
     use super::*;
     use crate::drawings::named;
+    use crate::random::{shapes, Random};
     use crate::sheet::map;
     use crate::table::{field, head_field, Gate, Table};
 
@@ -116,6 +117,38 @@ output 6 depth 2
         assert_eq!(lines, by_hand);
     }
 
+    /// A line's words with every number read, hexadecimal after `table`.
+    fn lut_of(line: &str) -> (Lut, usize) {
+        let number = |word: &&str| word.parse::<usize>().unwrap();
+        let words: Vec<&str> = line.split(' ').collect();
+        let (leaves, table) = words[5..].split_at(words.len() - 7);
+        assert_eq!([words[0], words[2], words[4], table[0]], ["lut", "depth", "leaves", "table"]);
+        assert_eq!(table[1].len(), 16);
+        let rows = u64::from_str_radix(table[1], 16).unwrap();
+        let leaves = leaves.iter().map(number).collect();
+        (Lut { root: number(&words[1]), leaves, rows }, number(&words[3]))
+    }
+
+    #[test]
+    fn listings_say_what_the_sheets_say() {
+        let mut random = Random::seeded(14);
+        for _ in 0..300 {
+            let nodes = random.between(1, 40);
+            let graph = match Graph::new(shapes::any(nodes, &mut random)) {
+                Ok(graph) => graph,
+                Err(_) => continue,
+            };
+            let sheet = mapped(&graph);
+            let text = listing(&graph.table.bytes());
+            let lines: Vec<&str> = text.lines().collect();
+            assert_eq!(lines.len(), 1 + sheet.luts.len() + graph.table.outputs.len());
+            for (line, lut) in lines[1..].iter().zip(&sheet.luts) {
+                let label = sheet.lines[lut.root - graph.table.inputs].label;
+                assert_eq!(lut_of(line), (lut.clone(), label));
+            }
+        }
+    }
+
     #[test]
     fn the_lines_of_the_inspectors_program() {
         let net = named("P1").bytes();
@@ -128,21 +161,30 @@ output 6 depth 2
         assert_eq!(inspector_line(&[], &[]), "refused 1 at 0\n");
     }
 
+    /// The whole of such a field has a bad length; what the program reads of it is torn.
     #[test]
     fn only_the_first_bytes_are_read() {
-        let net = named("P7").bytes();
-        let mut long_sheet = map(&net, BUFFER_LIMIT).unwrap();
-        long_sheet.resize(SHEET_BYTES + 1, 0);
-        assert_eq!(inspector_line(&net, &long_sheet), "refused 31 at 6\n");
-        let too_long = vec![0; SHEET_BYTES];
-        // The whole of such a gate is too long; what the program reads of it is torn.
-        let long_net = [head_field(2, 1, 1), field(2, &too_long[..TABLE_BYTES])].concat();
-        assert_eq!(Graph::read(&long_net).unwrap_err(), (3, 7));
-        assert_eq!(listing(&long_net), "refused 1 at 7\n");
-        assert_eq!(inspector_line(&long_net, &[]), "refused 1 at 7\n");
+        let zeros = [0; 49_152];
+        let start = 7;
+        let net = [head_field(2, 1, 1), field(2, &zeros[..4_096 - start - 2])].concat();
+        assert_eq!(net.len(), 4_097);
+        assert_eq!(Graph::read(&net).unwrap_err(), (3, start));
+        assert_eq!(listing(&net), "refused 1 at 7\n");
+        assert_eq!(inspector_line(&net, &[]), "refused 1 at 7\n");
         let p6 = named("P6").bytes();
-        let long_line = [field(16, &[1, 1, 1]), field(17, &too_long)].concat();
-        assert_eq!(inspect(&p6, &long_line), Err((23, 6)));
-        assert_eq!(inspector_line(&p6, &long_line), "refused 21 at 6\n");
+        let start = 6;
+        let sheet = [field(16, &[1, 1, 1]), field(17, &zeros[..49_152 - start - 2])].concat();
+        assert_eq!(sheet.len(), 49_153);
+        assert_eq!(inspect(&p6, &sheet), Err((23, start)));
+        assert_eq!(inspector_line(&p6, &sheet), "refused 21 at 6\n");
+        assert_eq!(inspector_line(&p6, &sheet[..49_152]), "refused 21 at 6\n");
+    }
+
+    #[test]
+    fn bytes_after_the_end_are_extra_as_far_as_they_are_read() {
+        let net = named("P7").bytes();
+        let mut sheet = map(&net, BUFFER_LIMIT).unwrap();
+        sheet.resize(SHEET_BYTES + 1, 0);
+        assert_eq!(inspector_line(&net, &sheet), "refused 31 at 6\n");
     }
 }

@@ -105,6 +105,13 @@ impl Sheet {
     pub fn bytes(&self) -> Vec<u8> {
         self.fields().concat()
     }
+
+    /// What the paper fixes of the mapper's sheet: all but the paths of the evidence.
+    pub fn fixed_part(&self) -> Sheet {
+        let mut fixed = self.clone();
+        fixed.lines.iter_mut().for_each(|line| line.paths.clear());
+        fixed
+    }
 }
 
 /// Reads a sheet for a table, which is the inspector's first pass: the refusals 21 to 24, field by
@@ -264,6 +271,17 @@ mod tests {
     }
 
     #[test]
+    fn the_paths_are_free() {
+        let sheet = mapped(&Graph::new(named("P1")).unwrap());
+        let mut other = sheet.clone();
+        other.lines[2].paths.reverse();
+        assert_ne!(other, sheet);
+        assert_eq!(other.fixed_part(), sheet.fixed_part());
+        other.luts[2].rows = 0;
+        assert_ne!(other.fixed_part(), sheet.fixed_part());
+    }
+
+    #[test]
     fn refusals_of_the_mapper_in_order() {
         assert_eq!(map(&[], 0), Err((1, 0)));
         assert_eq!(map(&named("P8").bytes(), 0), Err((7, 1)), "a loop comes before the room");
@@ -301,59 +319,77 @@ mod tests {
         assert_eq!(6 + (NODE_LIMIT - 1) * (line + lut), SHEET_LIMIT);
     }
 
-    /// The rules of pass one on P1's sheet with one field in another's place.
-    #[test]
-    fn refusals_of_pass_one() {
+    /// Where the fields of P1's sheet begin.
+    const P1_STARTS: [usize; 7] = [0, 6, 14, 22, 38, 53, 68];
+
+    /// Each case is a number and a field that stands in the place of P1's at this position.
+    fn assert_refused(at: usize, cases: &[(u32, Vec<u8>)]) {
         let table = named("P1");
-        let fields = mapped(&Graph::new(table.clone()).unwrap()).fields();
-        let starts = [0, 6, 14, 22, 38, 53, 68];
-        let with = |at: usize, other: Vec<u8>| {
-            let mut fields = fields.clone();
-            fields[at] = other;
-            read(&table, &fields.concat()).map(|_| ())
-        };
-        let refused = |number: u32, at: usize| Err((number, starts[at]));
+        let sheet = mapped(&Graph::new(table.clone()).unwrap());
+        for (number, other) in cases {
+            let mut fields = sheet.fields();
+            fields[at] = other.clone();
+            let reply = read(&table, &fields.concat());
+            assert_eq!(reply, Err((*number, P1_STARTS[at])), "{other:?}");
+        }
+    }
+
+    #[test]
+    fn bad_heads() {
+        let cases = [
+            (22, field(17, &[1, 2, 3])),
+            (23, field(16, &[1, 2])),
+            (23, field(16, &[1, 2, 3, 0])),
+            (24, field(16, &[0, 2, 3])),
+            (24, field(16, &[1, 192, 3])),
+            (24, field(16, &[1, 2, 4])),
+        ];
+        assert_refused(0, &cases);
+    }
+
+    #[test]
+    fn bad_lines() {
+        let cases = [
+            (22, field(18, &[1, 2, 0, 1, 0])),
+            (23, field(17, &[])),
+            (23, field(17, &[1])),
+            (23, field(17, &[1, 2, 0, 1])),
+            (23, field(17, &[1, 2, 0, 1, 0, 0])),
+            (23, field(17, &[0, 255, 0, 1, 0])),
+            (23, field(17, &[1, 2, 0, 1, 4, 1, 0, 1, 1, 1, 2])),
+            (24, field(17, &[0, 2, 0, 1, 0])),
+            (24, field(17, &[192, 2, 0, 1, 0])),
+            (24, field(17, &[1, 0, 0])),
+            (24, field(17, &[1, 4, 0, 1, 2, 3, 0])),
+            (24, field(17, &[1, 2, 1, 0, 0])),
+            (24, field(17, &[1, 2, 1, 1, 0])),
+            (24, field(17, &[1, 2, 0, 7, 0])),
+            (24, field(17, &[1, 2, 0, 1, 1, 1, 0])),
+            (24, field(17, &[1, 2, 0, 1, 4, 0, 0, 0, 0])),
+            (24, field(17, &[1, 2, 0, 1, 4, 1, 7, 1, 1, 1, 2, 1, 3])),
+        ];
+        assert_refused(1, &cases);
+    }
+
+    #[test]
+    fn bad_luts() {
         let lut = |value: &[u8]| field(LUT_TAG, &[value, &[0, 0, 0, 0, 0, 0, 0, 8]].concat());
         let cases = [
-            (22, 0, field(17, &[1, 2, 3])),
-            (23, 0, field(16, &[1, 2])),
-            (23, 0, field(16, &[1, 2, 3, 0])),
-            (24, 0, field(16, &[0, 2, 3])),
-            (24, 0, field(16, &[1, 192, 3])),
-            (24, 0, field(16, &[1, 2, 4])),
-            (22, 1, field(18, &[1, 2, 0, 1, 0])),
-            (23, 1, field(17, &[])),
-            (23, 1, field(17, &[1])),
-            (23, 1, field(17, &[1, 2, 0, 1])),
-            (23, 1, field(17, &[1, 2, 0, 1, 0, 0])),
-            (23, 1, field(17, &[0, 255, 0, 1, 0])),
-            (23, 1, field(17, &[1, 2, 0, 1, 4, 1, 0, 1, 1, 1, 2])),
-            (24, 1, field(17, &[0, 2, 0, 1, 0])),
-            (24, 1, field(17, &[192, 2, 0, 1, 0])),
-            (24, 1, field(17, &[1, 0, 0])),
-            (24, 1, field(17, &[1, 4, 0, 1, 2, 3, 0])),
-            (24, 1, field(17, &[1, 2, 1, 0, 0])),
-            (24, 1, field(17, &[1, 2, 1, 1, 0])),
-            (24, 1, field(17, &[1, 2, 0, 7, 0])),
-            (24, 1, field(17, &[1, 2, 0, 1, 1, 1, 0])),
-            (24, 1, field(17, &[1, 2, 0, 1, 4, 0, 0, 0, 0])),
-            (24, 1, field(17, &[1, 2, 0, 1, 4, 1, 7, 1, 1, 1, 2, 1, 3])),
-            (22, 4, field(17, &[1, 2, 0, 1, 0])),
-            (23, 4, field(18, &[])),
-            (23, 4, field(18, &[4, 2, 0, 1, 0, 0, 0, 0, 0, 0, 8])),
-            (23, 4, lut(&[4, 1, 0, 1])),
-            (23, 4, lut(&[4, 3, 0, 1])),
-            (24, 4, lut(&[3, 2, 0, 1])),
-            (24, 4, lut(&[7, 2, 0, 1])),
-            (24, 4, lut(&[4, 0])),
-            (24, 4, lut(&[4, 4, 0, 1, 2, 3])),
-            (24, 4, lut(&[4, 2, 1, 0])),
-            (24, 4, lut(&[4, 2, 0, 9])),
-            (24, 5, lut(&[4, 2, 0, 1])),
+            (22, field(17, &[1, 2, 0, 1, 0])),
+            (23, field(18, &[])),
+            (23, field(18, &[4])),
+            (23, field(18, &[4, 2, 0, 1, 0, 0, 0, 0, 0, 0, 8])),
+            (23, lut(&[4, 1, 0, 1])),
+            (23, lut(&[4, 3, 0, 1])),
+            (24, lut(&[3, 2, 0, 1])),
+            (24, lut(&[7, 2, 0, 1])),
+            (24, lut(&[4, 0])),
+            (24, lut(&[4, 4, 0, 1, 2, 3])),
+            (24, lut(&[4, 2, 1, 0])),
+            (24, lut(&[4, 2, 0, 9])),
         ];
-        for (number, at, other) in cases {
-            assert_eq!(with(at, other.clone()), refused(number, at), "{other:?}");
-        }
+        assert_refused(4, &cases);
+        assert_refused(5, &[(24, lut(&[4, 2, 0, 1]))]);
     }
 
     #[test]
@@ -361,8 +397,7 @@ mod tests {
         let table = named("P1");
         let bytes = sheet_bytes("P1");
         for length in 0..bytes.len() {
-            let starts = [0, 6, 14, 22, 38, 53, 68];
-            let start = starts.iter().copied().filter(|&start| start <= length).max().unwrap();
+            let start = P1_STARTS.into_iter().filter(|&start| start <= length).max().unwrap();
             assert_eq!(read(&table, &bytes[..length]), Err((21, start)), "{length}");
         }
     }

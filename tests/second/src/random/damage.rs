@@ -54,9 +54,11 @@ pub enum Damage {
     MissingLut,
     /// A LUT is there that nobody asks for.
     NeedlessLut,
+    /// Every LUT reads its gate's fanins; the head's depth fits them or not.
+    Deeper,
 }
 
-pub const DAMAGES: [Damage; 20] = [
+pub const DAMAGES: [Damage; 21] = [
     Damage::Byte,
     Damage::Shorter,
     Damage::Longer,
@@ -77,6 +79,7 @@ pub const DAMAGES: [Damage; 20] = [
     Damage::LutTable,
     Damage::MissingLut,
     Damage::NeedlessLut,
+    Damage::Deeper,
 ];
 
 /// What the inspector must say to a damaged sheet.
@@ -135,6 +138,7 @@ pub fn damaged(
         Damage::LutTable => luts::other_table(sheet, random),
         Damage::MissingLut => luts::missing(graph, sheet, random),
         Damage::NeedlessLut => luts::needless(graph, sheet, random),
+        Damage::Deeper => Some(luts::deeper(graph, sheet, random)),
     }
 }
 

@@ -88,7 +88,10 @@ fn input_count(shape: Shape, k: usize, nodes: usize, random: &mut Random) -> usi
         Shape::Deep | Shape::Crossing | Shape::Lanes => random.between(k + 1, k + 4),
         Shape::Wide => nodes * 2 / 3,
         Shape::Bare => nodes,
-        _ => *[1, k, k + 1, k + 3, 2 * k, random.between(1, most)].get(random.below(6)).unwrap(),
+        _ => {
+            let any = random.between(1, most);
+            *random.pick(&[1, k, k + 1, k + 3, 2 * k, any])
+        }
     };
     wanted.clamp(1, most)
 }
@@ -246,16 +249,16 @@ impl Growth<'_> {
         ring.truncate(self.random.between(1, 4));
         for (at, &gate) in ring.iter().enumerate() {
             let next = ring[(at + 1) % ring.len()];
-            self.read_also(gate, self.inputs + next);
+            self.rewire(gate, self.inputs + next);
         }
         if gates > 0 && self.random.one_in(2) {
             let (gate, node) = (self.random.below(gates), self.random.below(self.nodes()));
-            self.read_also(gate, node);
+            self.rewire(gate, node);
         }
     }
 
-    /// One of a gate's fanins is this node instead.
-    fn read_also(&mut self, gate: usize, node: usize) {
+    /// One of a gate's fanins becomes this node.
+    fn rewire(&mut self, gate: usize, node: usize) {
         let at = self.random.below(self.fanins[gate].len());
         self.fanins[gate][at] = node;
     }

@@ -2,7 +2,7 @@
 
 use super::{other_list, some_below, some_gate, starts, two_below, Damaged};
 use crate::graph::Graph;
-use crate::mapping::lut;
+use crate::mapping::{cover, cover_depth, lut};
 use crate::nodes::NodeSet;
 use crate::random::Random;
 use crate::sheet::Sheet;
@@ -63,4 +63,17 @@ pub fn needless(graph: &Graph, sheet: &Sheet, random: &mut Random) -> Option<Dam
     sheet.luts.push(needless);
     sheet.luts.sort_by_key(|lut| lut.root);
     Some(Damaged::refused(sheet.bytes(), 28, lowest))
+}
+
+/// A cover all the same, but one whose depth is perhaps not least.
+pub fn deeper(graph: &Graph, sheet: &Sheet, random: &mut Random) -> Damaged {
+    let fanins: Vec<NodeSet> = (0..graph.nodes()).map(|node| graph.fanin_set(node)).collect();
+    let luts = cover(graph, &fanins);
+    let depth = cover_depth(graph, &luts);
+    let said = if random.one_in(2) { depth } else { sheet.depth };
+    let deeper = Sheet { depth: said, luts, ..sheet.clone() };
+    match depth == sheet.depth {
+        true => Damaged::left_open(&deeper),
+        false => Damaged::refused(deeper.bytes(), 30, 0),
+    }
 }

@@ -1,0 +1,5 @@
+pub mod Parts
+pub mod Marking
+pub mod Ends
+pub mod Areas
+pub mod Whole

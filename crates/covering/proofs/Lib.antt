@@ -1,0 +1,9 @@
+pub mod Stores
+pub mod Numbers
+pub mod Sweeps
+pub mod Orders
+pub mod ConeRows
+pub mod Marking
+pub mod Backing
+pub mod Covered
+pub mod Answers

@@ -1,0 +1,80 @@
+-- `set_leaves` meets its contract: the leaves passed have their bits.
+use native.Mathlib.Omega.{arith}
+use Prim.Native.Nat.{ℕ, _≤_, _-_}
+use mathlib.Core.Path.{_≡_, subst}
+use denote.Ref.{now}
+use Rattle.theory.specs.Values.{resultAt}
+use Rattle.theory.proofs.Rows.{bit-below}
+use Rattle.covering.specs.Cones.{LeavesSet}
+use Rattle.covering.proofs.Sweeps.{leaves-none, leaves-more}
+use Rattle.covering.proofs.cones.set_leaves.Statement.{statement}
+use Rattle.covering.proofs.cones.set_leaves.Tie as tie
+
+abbrev Inv-loop : tie.InvT-loop
+Inv-loop leaves size row values₀ i₀ values i = (i ≤ size) × LeavesSet leaves i row values₀ values
+
+abbrev μ-loop : tie.MeasureT-loop
+μ-loop leaves size row values₀ i₀ values i = size - i
+
+loop-holds : tie.Need-loop-holds Inv-loop μ-loop
+loop-holds c = (omega arith, leaves-none (now (c .before .before .args .leaves)) (c .before .before .args .size) (c .before .before .args .row) (now (c .before .before .args .values)))
+
+result-at-requires : tie.Need-result-at-requires Inv-loop μ-loop
+result-at-requires c κs = omega arith
+
+add-values : tie.Need-add-values Inv-loop μ-loop
+add-values c = omega (arith, c .result-at .ensures, bit-below (resultAt (c .before .before .before .before .before .args .row) (c .before .before .loop .i)))
+
+mul-values : tie.Need-mul-values Inv-loop μ-loop
+mul-values c = omega arith
+
+shared-slice-read-values : tie.Need-shared-slice-read-values Inv-loop μ-loop
+shared-slice-read-values c = omega arith
+
+cast-values : tie.Need-cast-values Inv-loop μ-loop
+cast-values c = omega (arith, c .shared-slice-known2 .given (c .before .before .before .loop .i))
+
+mul-values-2 : tie.Need-mul-values-2 Inv-loop μ-loop
+mul-values-2 c = let l = c .before .before .before .loop in let low = (c .before .before .before .before .before .before .pre) .nodes (l .i) (omega arith) in omega (arith, (c .before .before .before .before .before .before .good))
+
+slice-write-values : tie.Need-slice-write-values Inv-loop μ-loop
+slice-write-values c = let a = c .before .before .before .before .before .before .args in let l = c .before .before .before .loop in omega (arith, (c .before .before .before .before .before .before .pre) .nodes (l .i) (omega arith), l .inv .1 .long)
+
+add-i : tie.Need-add-i Inv-loop μ-loop
+add-i c = omega arith
+
+loop-less : tie.Need-loop-less Inv-loop μ-loop
+loop-less c = omega arith
+
+loop-again : tie.Need-loop-again Inv-loop μ-loop
+loop-again c =
+    let a = c .before .before .before .before .before .before .args in let l = c .before .before .before .loop in
+    (omega arith, leaves-more (now (a .leaves)) (a .size) (a .row) (now (a .values)) (l .i) (c .before .before .before .before .before .before .pre) (omega arith) (c .before .result-at .ensures) (l .inv .1))
+
+same-length : tie.Need-same-length Inv-loop μ-loop
+same-length c = omega arith
+
+returns : tie.Need-returns Inv-loop μ-loop
+returns c =
+    let all : c .before .loop .i ≡ c .before .before .before .before .args .size = omega arith in
+    subst (λ (n : ℕ). LeavesSet (now (c .before .before .before .before .args .leaves)) n (c .before .before .before .before .args .row) (now (c .before .before .before .before .args .values)) (c .before .loop .values)) all (c .before .loop .inv .1)
+
+pub set-leaves-spec : {M : Type 1} → statement M
+set-leaves-spec =
+    tie.close
+    (tie.spec
+    Inv-loop
+    μ-loop
+    loop-holds
+    result-at-requires
+    add-values
+    mul-values
+    shared-slice-read-values
+    cast-values
+    mul-values-2
+    slice-write-values
+    add-i
+    loop-less
+    loop-again
+    same-length
+    returns)

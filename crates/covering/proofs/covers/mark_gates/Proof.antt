@@ -1,0 +1,67 @@
+-- `mark_gates` meets its contract: the gates among the nodes passed are marked.
+use native.Mathlib.Omega.{arith}
+use Prim.Native.Nat.{ℕ, _≤_, _-_}
+use mathlib.Core.Path.{_≡_, subst}
+use denote.Ref.{now}
+use Rattle.covering.specs.Covers.{GatesMarked}
+use Rattle.covering.proofs.Marking.{gates-none, gates-more}
+use Rattle.covering.proofs.covers.mark_gates.Statement.{statement}
+use Rattle.covering.proofs.covers.mark_gates.Tie as tie
+
+abbrev Inv-loop : tie.InvT-loop
+Inv-loop ids at many inputs root₀ i₀ root i = (i ≤ many) × GatesMarked ids at i inputs root₀ root
+
+abbrev μ-loop : tie.MeasureT-loop
+μ-loop ids at many inputs root₀ i₀ root i = many - i
+
+loop-holds : tie.Need-loop-holds Inv-loop μ-loop
+loop-holds c = let a = c .before .before .args in (omega arith, gates-none (now (a .ids)) (a .at) (a .inputs) (now (a .root)))
+
+add-t9 : tie.Need-add-t9 Inv-loop μ-loop
+add-t9 c = omega (arith, (c .before .before .before .before .pre) .inside)
+
+mul-t10 : tie.Need-mul-t10 Inv-loop μ-loop
+mul-t10 c = omega (arith, (c .before .before .before .before .pre) .inside)
+
+shared-slice-read-t12 : tie.Need-shared-slice-read-t12 Inv-loop μ-loop
+shared-slice-read-t12 c = omega (arith, (c .before .before .before .before .before .pre) .inside)
+
+mark-gate-requires : tie.Need-mark-gate-requires Inv-loop μ-loop
+mark-gate-requires c κs = let l = c .before .before .before .loop in rw (l .inv .1 .long) ((c .before .before .before .before .before .before .pre) .nodes (l .i) (omega arith))
+
+add-i : tie.Need-add-i Inv-loop μ-loop
+add-i c = omega (arith, (c .before .before .before .before .before .before .before .before .before .pre) .inside)
+
+loop-less : tie.Need-loop-less Inv-loop μ-loop
+loop-less c = omega (arith, (c .before .before .before .before .before .before .before .before .before .pre) .inside)
+
+loop-again : tie.Need-loop-again Inv-loop μ-loop
+loop-again c =
+    let a = c .before .before .before .before .before .before .before .before .before .args in let l = c .before .before .before .before .before .before .loop in
+    (omega arith, gates-more (now (a .ids)) (a .at) (a .inputs) (now (a .root)) (a .many) (l .i) (c .before .before .before .before .before .before .before .before .before .pre) (omega arith) (l .inv .1) (c .before .before .mark-gate .ensures))
+
+same-length : tie.Need-same-length Inv-loop μ-loop
+same-length c = c .before .loop .inv .1 .long
+
+returns : tie.Need-returns Inv-loop μ-loop
+returns c =
+    let a = c .before .before .before .before .args in let l = c .before .loop in
+    let all : l .i ≡ a .many = omega arith in
+    subst (λ (n : ℕ). GatesMarked (now (a .ids)) (a .at) n (a .inputs) (now (a .root)) (l .root)) all (l .inv .1)
+
+pub mark-gates-spec : {M : Type 1} → statement M
+mark-gates-spec =
+    tie.close
+    (tie.spec
+    Inv-loop
+    μ-loop
+    loop-holds
+    add-t9
+    mul-t10
+    shared-slice-read-t12
+    mark-gate-requires
+    add-i
+    loop-less
+    loop-again
+    same-length
+    returns)

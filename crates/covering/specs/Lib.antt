@@ -1,0 +1,3 @@
+pub mod Scratch
+pub mod Cones
+pub mod Covers

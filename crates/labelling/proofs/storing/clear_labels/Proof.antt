@@ -1,0 +1,60 @@
+-- `clear_labels` meets its contract: the entries passed hold 0.
+use native.Mathlib.Omega.{arith}
+use Prim.Native.Nat.{ℕ, _≤_, _-_}
+use mathlib.Core.Path.{_≡_, refl, ap, _∙_}
+use mathlib.Core.List.{List}
+use lib.ListN.{length, set, replicate, length-set}
+use lib.Seq.{sets}
+use denote.Ref.{now}
+use Rattle.drawing.proofs.Stores.{sets-of-same}
+use Rattle.labelling.proofs.storing.clear_labels.Statement.{statement}
+use Rattle.labelling.proofs.storing.clear_labels.Tie as tie
+
+abbrev Inv-loop : tie.InvT-loop
+Inv-loop labels₀ inputs i₀ labels i = (i ≤ inputs) × (length labels ≡ length labels₀) × (labels ≡ sets labels₀ 0 (replicate i 0))
+
+abbrev μ-loop : tie.MeasureT-loop
+μ-loop labels₀ inputs i₀ labels i = inputs - i
+
+loop-holds : tie.Need-loop-holds Inv-loop μ-loop
+loop-holds c = (omega arith, refl, refl)
+
+mul-labels : tie.Need-mul-labels Inv-loop μ-loop
+mul-labels c = omega arith
+
+slice-write-labels : tie.Need-slice-write-labels Inv-loop μ-loop
+slice-write-labels c = omega arith
+
+add-i : tie.Need-add-i Inv-loop μ-loop
+add-i c = omega arith
+
+loop-less : tie.Need-loop-less Inv-loop μ-loop
+loop-less c = omega arith
+
+loop-again : tie.Need-loop-again Inv-loop μ-loop
+loop-again c =
+    let l = c .before .loop .inv in
+    (omega arith, simp length-set (l .1), ap (λ (x : List ℕ). set x (c .before .loop .i) 0) (l .2) ∙ sets-of-same (now (c .before .before .args .labels)) (c .before .loop .i) 0)
+
+same-length : tie.Need-same-length Inv-loop μ-loop
+same-length c = c .before .loop .inv .1
+
+returns : tie.Need-returns Inv-loop μ-loop
+returns c =
+    let all : c .before .loop .i ≡ c .before .before .args .inputs = omega arith in
+    c .before .loop .inv .2 ∙ ap (λ (i : ℕ). sets (now (c .before .before .args .labels)) 0 (replicate i 0)) all
+
+pub clear-labels-spec : {M : Type 1} → statement M
+clear-labels-spec =
+    tie.close
+    (tie.spec
+    Inv-loop
+    μ-loop
+    loop-holds
+    mul-labels
+    slice-write-labels
+    add-i
+    loop-less
+    loop-again
+    same-length
+    returns)

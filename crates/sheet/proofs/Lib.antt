@@ -1,0 +1,9 @@
+pub mod Numbers
+pub mod Writes
+pub mod Parts
+pub mod Lengths
+pub mod Longest
+pub mod Joins
+pub mod Standing
+pub mod RoundTrip
+pub mod Shapes

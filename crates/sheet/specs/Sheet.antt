@@ -1,0 +1,33 @@
+-- A mapping sheet as a value.
+use Prim.Native.Nat.{ℕ}
+use mathlib.Core.List.{List, []}
+
+-- What the sheet says of a gate: its label, the leaves of its cut, and the evidence, one list of ids for each path.
+pub record Line : Type 0 where
+  pub label : ℕ
+  pub leaves : List ℕ
+  pub paths : List (List ℕ)
+
+-- a LUT: its root, its leaves, and the function table as a number
+pub record Lut : Type 0 where
+  pub root : ℕ
+  pub leaves : List ℕ
+  pub table : ℕ
+
+abbrev pub lineOf : (label : ℕ) (leaves : List ℕ) (paths : List (List ℕ)) → Line
+lineOf label leaves paths = record { label = label; leaves = leaves; paths = paths }
+
+abbrev pub lutOf : (root : ℕ) (leaves : List ℕ) (table : ℕ) → Lut
+lutOf root leaves table = record { root = root; leaves = leaves; table = table }
+
+abbrev pub noLine : Line
+noLine = lineOf 0 [] []
+
+abbrev pub noLut : Lut
+noLut = lutOf 0 [] 0
+
+-- The cover's depth, a line for each gate in id order, and the LUTs, roots rising.
+pub record Sheet : Type 0 where
+  pub depth : ℕ
+  pub lines : List Line
+  pub luts : List Lut

@@ -1,0 +1,126 @@
+-- Members of lists and of their first entries by their places; lists without repeats; the test of a member; and the fanins that arrays hold.
+use Prim.Native.Nat.{ℕ, zero, suc, min, _+_, _*_, _≤_, _<_, zero-le, suc-le-suc}
+use native.Mathlib.Nat.{le-of-suc-le-suc, not-suc-le-zero}
+use native.Mathlib.Omega.{arith}
+use mathlib.Core.Path.{_≡_, refl, ap, sym, subst, _∙_}
+use mathlib.Core.Bool.{Bool, true, false, false≢true, _||_, or-true}
+use mathlib.Core.Logic.{_⊎_, inl, inr, ⊎-elim}
+use mathlib.Core.List.{List, [], _∷_, _++_, List·Memᴰ, List·Memᴰ·head, List·Memᴰ·tail, List·Memᴰ·not-nil, List·Memᴰ·append-cases, List·Memᴰ·eq-of-singleton, Memᴰ·cast, Memᴰ·append-right}
+use lib.ListN.{length, getD, take, drop, length-take, length-drop}
+use lib.Seq.{getD-take, getD-drop}
+use lib.Dec.{eqb}
+use borrow.Author.Tests.{eq-eqb, eqb-true, lt-ltb, le-ltb}
+use Rattle.theory.specs.Lists.{NoRepeats}
+use Rattle.drawing.specs.Table.{netIn}
+use Rattle.walking.specs.Sweeps.{among}
+use Rattle.walking.specs.Listing.{faninsAt}
+
+-- Members by their places
+
+pub member-at : (l : List ℕ) (i : ℕ) → i < length l → List·Memᴰ (getD l i 0) l
+member-at [] i h = absurd (not-suc-le-zero h)
+member-at (x ∷ l) zero h = List·Memᴰ·head refl
+member-at (x ∷ l) (suc i) h = List·Memᴰ·tail (member-at l i (le-of-suc-le-suc h))
+
+-- where a member stands
+pub record Place (v : ℕ) (l : List ℕ) : Type 0 where
+  pub at : ℕ
+  pub inside : at < length l
+  pub entry : getD l at 0 ≡ v
+
+pub place-of : {v : ℕ} {l : List ℕ} → List·Memᴰ v l → Place v l
+place-of (List·Memᴰ·head e) = record { at = zero; inside = suc-le-suc zero-le; entry = sym e }
+place-of {v} (List·Memᴰ·tail {x = x} {xs = xs} m) = later (place-of m)
+  where
+    later : Place v xs → Place v (x ∷ xs)
+    later p = record { at = suc (p .at); inside = suc-le-suc (p .inside); entry = p .entry }
+
+pub member-of-part : (n : ℕ) (l : List ℕ) (i : ℕ) → i < n → i < length l → List·Memᴰ (getD l i 0) (take n l)
+member-of-part n l i low inside =
+    subst (λ (v : ℕ). List·Memᴰ v (take n l)) (getD-take n l i 0 low) (member-at (take n l) i (simp length-take (omega arith)))
+
+-- where a member of the first n entries stands
+pub record PartPlace (v n : ℕ) (l : List ℕ) : Type 0 where
+  pub at : ℕ
+  pub low : at < n
+  pub inside : at < length l
+  pub entry : getD l at 0 ≡ v
+
+pub part-place : {v : ℕ} (n : ℕ) (l : List ℕ) → List·Memᴰ v (take n l) → PartPlace v n l
+part-place {v} n l m =
+    let p = place-of m in
+    let size : length (take n l) ≡ min n (length l) = length-take n l in
+    let low : p .at < n = omega (arith, p .inside) in
+    record { at = p .at; low = low; inside = omega (arith, p .inside); entry = sym (getD-take n l (p .at) 0 low) ∙ p .entry }
+
+-- One more entry
+
+pub member-more : {u v : ℕ} {l : List ℕ} → List·Memᴰ u (l ++ (v ∷ [])) → List·Memᴰ u l ⊎ (u ≡ v)
+member-more {u} {v} {l} m = ⊎-elim (λ old. inl old) (λ (new : List·Memᴰ u (v ∷ [])). inr (List·Memᴰ·eq-of-singleton new)) (List·Memᴰ·append-cases l m)
+
+pub member-last : (v : ℕ) (l : List ℕ) → List·Memᴰ v (l ++ (v ∷ []))
+member-last v l = Memᴰ·append-right l (List·Memᴰ·head refl)
+
+pub no-repeats-more : {v : ℕ} {l : List ℕ} → NoRepeats l → (List·Memᴰ v l → ⊥) → NoRepeats (l ++ (v ∷ []))
+no-repeats-more NoRepeats.none new = NoRepeats.more List·Memᴰ·not-nil NoRepeats.none
+no-repeats-more {v} (NoRepeats.more {v = u} {vs = vs} apart rest) new =
+    NoRepeats.more
+    (λ m. ⊎-elim apart (λ (e : u ≡ v). new (List·Memᴰ·head (sym e))) (member-more m))
+    (no-repeats-more rest (λ m. new (List·Memᴰ·tail m)))
+
+-- no entry stands at two places
+pub one-place : {l : List ℕ} → NoRepeats l → (i j : ℕ) → i < length l → j < length l → getD l i 0 ≡ getD l j 0 → i ≡ j
+one-place NoRepeats.none i j p q e = absurd (not-suc-le-zero p)
+one-place (NoRepeats.more apart rest) zero zero p q e = refl
+one-place (NoRepeats.more {vs = vs} apart rest) zero (suc j) p q e = absurd (apart (Memᴰ·cast e (member-at vs j (le-of-suc-le-suc q))))
+one-place (NoRepeats.more {vs = vs} apart rest) (suc i) zero p q e = absurd (apart (Memᴰ·cast (sym e) (member-at vs i (le-of-suc-le-suc p))))
+one-place (NoRepeats.more apart rest) (suc i) (suc j) p q e = ap suc (one-place rest i j (le-of-suc-le-suc p) (le-of-suc-le-suc q) e)
+
+-- The test of a member
+
+pub false-not-true : {b : Bool} → b ≡ false → b ≡ true → ⊥
+false-not-true {b} p q = let e : false ≡ true = sym p ∙ q in false≢true e
+
+pub among-member : {v : ℕ} {l : List ℕ} → List·Memᴰ v l → among v l ≡ true
+unfolding among
+among-member {v} (List·Memᴰ·head {x = x} e) = rw (eq-eqb v x e)
+among-member {v} (List·Memᴰ·tail {x = x} m) = rw (among-member m) (or-true (eqb v x))
+
+pub member-among : (v : ℕ) (l : List ℕ) → among v l ≡ true → List·Memᴰ v l
+unfolding among
+member-among v [] e = absurd (false-not-true refl e)
+member-among v (u ∷ l) e = either (eqb v u) refl e (member-among v l)
+  where
+    either : (b : Bool) → eqb v u ≡ b → (b || among v l) ≡ true → (among v l ≡ true → List·Memᴰ v l) → List·Memᴰ v (u ∷ l)
+    either true same e later = List·Memᴰ·head (eqb-true v u same)
+    either false other e later = List·Memᴰ·tail (later e)
+
+pub not-among : {v : ℕ} {l : List ℕ} → (List·Memᴰ v l → ⊥) → among v l ≡ false
+not-among {v} {l} none = either (among v l) refl
+  where
+    either : (b : Bool) → among v l ≡ b → among v l ≡ false
+    either true e = absurd (none (member-among v l e))
+    either false e = e
+
+-- The fanins that arrays hold
+
+module _ (inputs nodes : ℕ) (fan count : List ℕ) where
+  pub fanins-in : (v : ℕ) → v < nodes → netIn inputs nodes fan count .fanins v ≡ faninsAt fan count v
+  unfolding netIn
+  fanins-in v node = rw (lt-ltb v nodes node)
+
+  pub fanins-out : (v : ℕ) → nodes ≤ v → netIn inputs nodes fan count .fanins v ≡ []
+  unfolding netIn
+  fanins-out v out = rw (le-ltb v nodes out)
+
+module _ (fan count : List ℕ) (v : ℕ) (long : 6 * v + 6 ≤ length fan) (six : getD count v 0 ≤ 6) where
+  pub fanins-size : length (faninsAt fan count v) ≡ getD count v 0
+  fanins-size = simp (length-take, length-drop) (omega arith)
+
+  pub fanin-entry : (i : ℕ) → i < getD count v 0 → getD (faninsAt fan count v) i 0 ≡ getD fan (6 * v + i) 0
+  fanin-entry i low = rw (getD-take (getD count v 0) (drop (6 * v) fan) i 0 low, getD-drop)
+
+  pub fanin-member : (i : ℕ) → i < getD count v 0 → List·Memᴰ (getD fan (6 * v + i) 0) (faninsAt fan count v)
+  fanin-member i low =
+      subst (λ (u : ℕ). List·Memᴰ u (faninsAt fan count v)) (fanin-entry i low)
+      (member-at (faninsAt fan count v) i (omega (arith, fanins-size)))

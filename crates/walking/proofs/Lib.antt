@@ -1,0 +1,13 @@
+pub mod Entries
+pub mod Counting
+pub mod Placing
+pub mod Orders
+pub mod Tests
+pub mod Listings
+pub mod Fills
+pub mod SweepLoops
+pub mod Searches
+pub mod Walks
+pub mod WalkLoops
+pub mod Outcomes
+pub mod Unique

@@ -1,0 +1,79 @@
+-- `leaves_met` meets its contract: each leaf passed is a node that is met.
+use native.Mathlib.Omega.{arith}
+use Prim.Native.Nat.{ℕ, _≤_, _<_, _-_}
+use mathlib.Core.Path.{_≡_}
+use lib.ListN.{getD}
+use borrow.Author.Count.{below-more}
+use borrow.Author.Tests.{not-true, not-false}
+use denote.Ref.{now}
+use Rattle.walking.proofs.Tests.{tells-yes, tells-no, each-of-part}
+use Rattle.walking.proofs.Entries.{member-of-part}
+use Rattle.walking.proofs.cones.leaves_met.Statement.{statement}
+use Rattle.walking.proofs.cones.leaves_met.Tie as tie
+
+abbrev Inv-loop : tie.InvT-loop
+Inv-loop leaves nodes met most i₀ i = (i ≤ most) × ((j : ℕ) → j < i → (getD leaves j 0 < nodes) × (getD met (getD leaves j 0) 0 ≡ 1))
+
+abbrev μ-loop : tie.MeasureT-loop
+μ-loop leaves nodes met most i₀ i = most - i
+
+cast-most : tie.Need-cast-most Inv-loop μ-loop
+cast-most c = omega arith
+
+loop-holds : tie.Need-loop-holds Inv-loop μ-loop
+loop-holds c = (omega arith, λ j low. absurd (omega arith))
+
+mul-t9 : tie.Need-mul-t9 Inv-loop μ-loop
+mul-t9 c = omega arith
+
+shared-slice-read-t11 : tie.Need-shared-slice-read-t11 Inv-loop μ-loop
+shared-slice-read-t11 c = omega arith
+
+cast-if1 : tie.Need-cast-if1 Inv-loop μ-loop
+cast-if1 c = omega arith
+
+returns : tie.Need-returns Inv-loop μ-loop
+returns c =
+    let a = c .before .before .before .before .before .before .before .before .args in
+    tells-no (λ all. omega (arith, all (getD (now (a .leaves)) (c .before .before .before .before .loop .i) 0) (member-of-part (a .size .leaves) (now (a .leaves)) (c .before .before .before .before .loop .i) (omega arith) (omega arith))))
+
+is-marked-requires : tie.Need-is-marked-requires Inv-loop μ-loop
+is-marked-requires c κs = omega arith
+
+returns-2 : tie.Need-returns-2 Inv-loop μ-loop
+returns-2 c =
+    let a = c .before .before .before .before .before .before .before .before .before .before .args in
+    tells-no (λ all. c .before .is-marked .ensures .no (not-true _ (c .if2 .taken)) (all (getD (now (a .leaves)) (c .before .before .before .before .before .before .loop .i) 0) (member-of-part (a .size .leaves) (now (a .leaves)) (c .before .before .before .before .before .before .loop .i) (omega arith) (omega arith)) .1))
+
+add-i : tie.Need-add-i Inv-loop μ-loop
+add-i c = omega arith
+
+loop-less : tie.Need-loop-less Inv-loop μ-loop
+loop-less c = omega arith
+
+loop-again : tie.Need-loop-again Inv-loop μ-loop
+loop-again c = (omega arith, below-more _ _ (c .before .before .before .before .before .before .loop .inv .1) (omega arith, c .before .is-marked .ensures .yes (not-false _ (c .if2 .left))))
+
+returns-3 : tie.Need-returns-3 Inv-loop μ-loop
+returns-3 c =
+    let a = c .before .before .before .before .before .args in
+    tells-yes (each-of-part (λ (v : ℕ). (v < a .nodes) × (getD (now (a .met)) v 0 ≡ 1)) (a .size .leaves) (now (a .leaves)) (λ i low. c .before .loop .inv .1 i (omega arith)))
+
+pub leaves-met-spec : {M : Type 1} → statement M
+leaves-met-spec =
+    tie.close
+    (tie.spec
+    Inv-loop
+    μ-loop
+    cast-most
+    loop-holds
+    mul-t9
+    shared-slice-read-t11
+    cast-if1
+    returns
+    is-marked-requires
+    returns-2
+    add-i
+    loop-less
+    loop-again
+    returns-3)
