@@ -1,0 +1,16 @@
+pub mod Sums
+pub mod Links
+pub mod Counting
+pub mod Reached
+pub mod Borders
+pub mod Leasts
+pub mod Paths
+pub mod Orders
+pub mod Stores
+pub mod Finding
+pub mod Ways
+pub mod Sweeping
+pub mod Augmented
+pub mod Rounded
+pub mod Answered
+pub mod Listing

@@ -1,0 +1,77 @@
+-- The ways into and out of a node, as the code reads them.
+use Prim.Native.Nat.{ℕ, zero, suc, _+_, _*_, _-_, _≤_, _<_}
+use native.Mathlib.Omega.{arith}
+use mathlib.Core.Path.{_≡_, refl, sym, ap, subst, _∙_}
+use mathlib.Core.Bool.{Bool, true, false, not, cond}
+use mathlib.Core.Logic.{_⊎_, inl, inr, ⊎-elim}
+use mathlib.Core.List.{List}
+use lib.ListN.{length, getD, set}
+use lib.Dec.{eqb}
+use borrow.Author.Tests.{eq-eqb, ne-eqb, lt-ltb, le-ltb, eqb-true, eqb-false, not-true, not-false}
+use Rattle.flow.specs.Turns.{at, nodeAt, FaninFound, NoWayIn, NoWayOut, Entered, Left}
+
+pub node-input : (inputs : ℕ) (order : List ℕ) (i : ℕ) → i < inputs → i ≡ nodeAt inputs order i
+node-input inputs order i low = sym (ap (λ (b : Bool). cond b i (getD order (i - inputs) 0)) (lt-ltb i inputs low))
+
+pub node-gate : (inputs : ℕ) (order : List ℕ) (i : ℕ) → inputs ≤ i → getD order (i - inputs) 0 ≡ nodeAt inputs order i
+node-gate inputs order i high = sym (ap (λ (b : Bool). cond b i (getD order (i - inputs) 0)) (le-ltb i inputs high))
+
+-- a test for 0
+nonzero : (x : ℕ) → ((x ≡ 0) × (not (eqb x 0) ≡ false)) ⊎ ((1 ≤ x) × (not (eqb x 0) ≡ true))
+nonzero zero = inl (refl, refl)
+nonzero (suc x) = inr (omega arith, ap not (ne-eqb (suc x) 0 (λ e. omega arith)))
+
+-- Out
+
+pub left-through : (next ins : List ℕ) (v x : ℕ) → at next v ≡ 0 → x ≡ at ins v → Left next ins v (not (eqb x 0))
+left-through next ins v x idle e =
+    ⊎-elim
+    (λ (h : (x ≡ 0) × (not (eqb x 0) ≡ false)).
+    Left.none (h .1) (record { through = λ _. omega (arith, h .0); back = λ g f. absurd (omega arith) }))
+    (λ (h : (1 ≤ x) × (not (eqb x 0) ≡ true)). Left.through (h .1) idle (omega (arith, h .0))) (nonzero x)
+
+pub left-sink : (next ins : List ℕ) (v : ℕ) → at next v ≡ 1 → Left next ins v false
+left-sink next ins v e = Left.none refl (record { through = λ f. absurd (omega arith); back = λ g f. absurd (omega arith) })
+
+pub left-back : (next ins : List ℕ) (v to x : ℕ) → to ≡ at next v → 2 ≤ to → x ≡ at ins (to - 2) → Left next ins v (not (eqb x 0))
+left-back next ins v to x e high f =
+    ⊎-elim
+    (λ (h : (x ≡ 0) × (not (eqb x 0) ≡ false)).
+    Left.none (h .1)
+    (record { through = λ idle. absurd (omega arith); back = λ g goes. omega (arith, h .0, ap (at ins) (same g goes)) }))
+    (λ (h : (1 ≤ x) × (not (eqb x 0) ≡ true)). Left.back (to - 2) (h .1) (omega arith) (omega (arith, h .0))) (nonzero x)
+  where
+    same : (g : ℕ) → at next v ≡ suc (suc g) → g ≡ to - 2
+    same g goes = omega arith
+
+-- In
+
+pub enter-fanin : (inputs : ℕ) (fan count next outs : List ℕ) (v : ℕ) {r : ℕ} → FaninFound fan count outs v r → (r ≡ 0 → ⊥) →
+    Entered inputs fan count next outs v r
+enter-fanin inputs fan count next outs v (FaninFound.none e _) some = absurd (some e)
+enter-fanin inputs fan count next outs v (FaninFound.some i short e found) some = Entered.fanin i e short found
+
+pub enter-none : (inputs : ℕ) (fan count next outs : List ℕ) (v : ℕ) {r : ℕ} → FaninFound fan count outs v r → r ≡ 0 → inputs ≤ v →
+    (1 ≤ at next v → at outs v ≡ 0) → Entered inputs fan count next outs v 0
+enter-none inputs fan count next outs v (FaninFound.none _ none) e high own =
+    Entered.none refl (record { source = λ low. omega arith; own = own; fanin = none })
+enter-none inputs fan count next outs v (FaninFound.some i short f found) e high own = absurd (omega arith)
+
+pub entered-none : {inputs : ℕ} {fan count next outs : List ℕ} {v r : ℕ} → Entered inputs fan count next outs v r → r ≡ 0 →
+    NoWayIn inputs fan count next outs v
+entered-none (Entered.none _ none) e = none
+entered-none (Entered.source f _) e = absurd (omega arith)
+entered-none (Entered.own f _ _) e = absurd (omega arith)
+entered-none (Entered.fanin i f _ _) e = absurd (omega arith)
+
+pub left-none : {next ins : List ℕ} {v : ℕ} {r : Bool} → Left next ins v r → r ≡ false → NoWayOut next ins v
+left-none (Left.none _ none) e = none
+left-none (Left.through f _ _) e = absurd (let w : _≡_ {A = ℕ} 0 1 = cc in omega arith)
+left-none (Left.back g f _ _) e = absurd (let w : _≡_ {A = ℕ} 0 1 = cc in omega arith)
+
+-- a mark, tested
+pub marked : {b : Bool} (x : ℕ) → b ≡ eqb x 1 → not b ≡ false → x ≡ 1
+marked {b} x e test = eqb-true x 1 (sym e ∙ not-false b test)
+
+pub unmarked : {b : Bool} (x : ℕ) → b ≡ eqb x 1 → not b ≡ true → x ≡ 1 → ⊥
+unmarked {b} x e test = eqb-false x 1 (sym e ∙ not-true b test)

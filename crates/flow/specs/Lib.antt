@@ -1,0 +1,10 @@
+pub mod Numbers
+pub mod Flow
+pub mod Area
+pub mod Paths
+pub mod Turns
+pub mod Sweeps
+pub mod Augments
+pub mod Rounds
+pub mod Answer
+pub mod Reads
