@@ -10,11 +10,11 @@ use mathlib.Core.List.{[], List·Memᴰ}
 use Rattle.theory.specs.Net.{Net, Gate, Input}
 use Rattle.theory.specs.Sound.{Bounded, Ranked}
 use Rattle.theory.specs.Walk.{Walked, Behind}
-use Rattle.theory.specs.Evidence.{peak, InD}
+use Rattle.theory.specs.Evidence.{peak, InD, NeverFalls}
 use Rattle.theory.proofs.Members.{some-member}
 use Rattle.theory.proofs.Walks.{behind-walked, met-node, reader-is-gate, input-or-gate, gate-no-input, no-loop, decide-gate}
 use Rattle.theory.proofs.Bounds.{ZeroAtInputs}
-use Rattle.theory.proofs.Duality.{NeverFalls, behind-low}
+use Rattle.theory.proofs.Duality.{behind-low}
 use Rattle.area.specs.Area.{InArea, IsEnd}
 
 module _ {net : Net} {k t : ℕ} (bounded : Bounded net k) (gate : Gate net t) (ranked : Ranked net) where

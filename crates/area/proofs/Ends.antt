@@ -9,7 +9,8 @@ use mathlib.Core.List.{List, List·Memᴰ, List·Memᴰ·not-nil}
 use lib.ListN.{length, getD, set, take, drop, length-set}
 use lib.Seq.{getD-set-same, getD-set-other}
 use Rattle.walking.specs.Arrays.{Marks}
-use Rattle.area.specs.Area.{faninsAt, Fed}
+use Rattle.walking.specs.Listing.{faninsAt}
+use Rattle.area.specs.Area.{Fed}
 use Rattle.area.specs.Passes.{NoEnd, FaninsMarked, EndIn}
 use Rattle.area.proofs.Parts.{part-old, part-new, part-cases}
 use Rattle.area.proofs.Marking.{marks-same, drop-same, Filling}

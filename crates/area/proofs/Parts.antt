@@ -14,7 +14,8 @@ use Rattle.theory.proofs.Walks.{fanin-node}
 use Rattle.drawing.specs.Table.{netIn}
 use Rattle.drawing.proofs.Digits.{take-more}
 use Rattle.walking.specs.Arrays.{Drawn}
-use Rattle.area.specs.Area.{faninsAt, labelIn, Fed, PeakIn}
+use Rattle.walking.specs.Listing.{faninsAt}
+use Rattle.area.specs.Area.{labelIn, Fed, PeakIn}
 
 pub member-at : (l : List ℕ) (i : ℕ) → i < length l → List·Memᴰ (getD l i 0) l
 member-at [] i low = absurd (not-suc-le-zero low)

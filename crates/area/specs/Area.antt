@@ -8,6 +8,7 @@ use Rattle.theory.specs.Walk.{Behind}
 use Rattle.theory.specs.Evidence.{peak, InD}
 use Rattle.drawing.specs.Table.{netIn}
 use Rattle.walking.specs.Arrays.{Drawn, Marks}
+use Rattle.walking.specs.Listing.{faninsAt}
 
 -- "stays behind t and outside D"
 pub record InArea (net : Net) (lab : ℕ → ℕ) (t v : ℕ) : Type 0 where
@@ -24,10 +25,6 @@ pub record IsEnd (net : Net) (lab : ℕ → ℕ) (t v : ℕ) : Type 0 where
 -- the labels that an array holds
 abbrev pub labelIn : List ℕ → ℕ → ℕ
 labelIn labels v = getD labels v 0
-
--- the fanins that arrays hold for a node
-abbrev pub faninsAt : List ℕ → List ℕ → ℕ → List ℕ
-faninsAt fan count v = take (getD count v 0) (drop (6 * v) fan)
 
 -- A gate's fanins lie within the arrays, and each has an entry in an array of `size` entries.
 pub record Fed (fan count : List ℕ) (gate size : ℕ) : Type 0 where

@@ -5,7 +5,8 @@ use mathlib.Core.Logic.{_⊎_}
 use mathlib.Core.List.{List, List·Memᴰ}
 use lib.ListN.{length, getD}
 use Rattle.walking.specs.Arrays.{Marks}
-use Rattle.area.specs.Area.{faninsAt, Fed, Marked}
+use Rattle.walking.specs.Listing.{faninsAt}
+use Rattle.area.specs.Area.{Fed, Marked}
 
 -- a mark of one statement: 1 if it holds, 0 if not
 abbrev pub Mark : Type 0 → ℕ → Type 0

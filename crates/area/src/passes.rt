@@ -7,7 +7,8 @@ use drawing::Node;
 ghost use Prim.Native.Nat.{max, _≤_};
 ghost use mathlib.Core.Path.{_≡_};
 ghost use lib.ListN.{length};
-ghost use Rattle.area.specs.Area.{Fed, faninsAt, Marked};
+ghost use Rattle.walking.specs.Listing.{faninsAt};
+ghost use Rattle.area.specs.Area.{Fed, Marked};
 ghost use Rattle.area.specs.Passes.{Mark, IsDeep, SplitAsked, Split, FaninsMarked, EndsAsked, EndIn};
 
 pub fn larger(a: Label, b: Label) -> Label

@@ -1,5 +1,5 @@
 // A drawing's numbers, and the reading of a gate table: its bytes into arrays that the caller lends.
-mod bytes;
+pub mod bytes;
 mod fields;
 mod filling;
 

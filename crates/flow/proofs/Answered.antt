@@ -11,9 +11,8 @@ use lib.Dec.{eqb}
 use lib.Seq.{getD-take, length-take-le, take-at, drop-at}
 use Rattle.theory.specs.Net.{Net, Gate}
 use Rattle.theory.specs.Sound.{Bounded, Ranked}
-use Rattle.theory.specs.Evidence.{Evidence, LeastCut}
+use Rattle.theory.specs.Evidence.{Evidence, LeastCut, NeverFalls}
 use Rattle.theory.proofs.Walks.{met-node}
-use Rattle.theory.proofs.Duality.{NeverFalls}
 use Rattle.drawing.specs.Table.{netIn}
 use Rattle.drawing.specs.declared.CutSize.{CutSize}
 use Rattle.walking.specs.Arrays.{Drawn, Ordered, Marks}
@@ -22,7 +21,8 @@ use Rattle.flow.specs.declared.rounds.Outcome.{Outcome}
 use Rattle.flow.specs.declared.rounds.Outcome.the-variants.{Many, Full}
 use Rattle.flow.specs.Numbers.{sum, those}
 use Rattle.flow.specs.Flow.{isLeaf, Carries, Found, Settled}
-use Rattle.flow.specs.Area.{InArea, IsEnd, Marked}
+use Rattle.area.specs.Area.{InArea, IsEnd}
+use Rattle.flow.specs.Area.{Marked}
 use Rattle.flow.specs.Paths.{follow, pathsIn}
 use Rattle.flow.specs.Turns.{at, Ground, Searched}
 use Rattle.flow.specs.Sweeps.{Field, AllSettled}

@@ -11,10 +11,11 @@ use lib.ListN.{length}
 use Rattle.theory.specs.Net.{Net, Gate, Input}
 use Rattle.theory.specs.Sound.{Bounded, Ranked}
 use Rattle.theory.specs.Walk.{Walked, Met, Behind}
-use Rattle.theory.specs.Evidence.{peak, InD, Outside}
+use Rattle.theory.specs.Evidence.{peak, InD, Outside, NeverFalls}
 use Rattle.theory.proofs.Walks.{Stops, behind-on, behind-walked, walk-behind, met-behind, leaf-or-walked, no-loop, gate-no-input, decide-gate, reader-is-gate, met-node, cone-of-walked}
-use Rattle.theory.proofs.Duality.{NeverFalls, behind-low, d-is-walked}
-use Rattle.flow.specs.Area.{InArea, IsEnd, Marked}
+use Rattle.theory.proofs.Duality.{behind-low, d-is-walked}
+use Rattle.area.specs.Area.{InArea, IsEnd}
+use Rattle.flow.specs.Area.{Marked}
 
 module _ {net : Net} {k : ℕ} {lab : ℕ → ℕ} {t : ℕ} (bounded : Bounded net k) (ranked : Ranked net) (gate : Gate net t) (never-falls : NeverFalls net lab t) where
   deep-behind : {v : ℕ} → InD net lab t v → Behind net t v → Gate net v × (lab v ≡ peak net lab t)

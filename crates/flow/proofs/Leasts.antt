@@ -11,16 +11,16 @@ use lib.ListN.{length}
 use Rattle.theory.specs.Net.{Net, Gate, Input}
 use Rattle.theory.specs.Sound.{Bounded, Ranked}
 use Rattle.theory.specs.Walk.{Walked, Met, Cut, Cone}
-use Rattle.theory.specs.Evidence.{InD, Outside, LeastCut}
+use Rattle.theory.specs.Evidence.{InD, Outside, LeastCut, NeverFalls}
 use Rattle.theory.proofs.Decisions.{decide-member}
 use Rattle.theory.proofs.Members.{member-counts}
 use Rattle.theory.proofs.Ranks.{common-bound}
 use Rattle.theory.proofs.Walks.{Stops, cut-stops, leaf-or-walked, decide-walked}
 use Rattle.theory.proofs.Cuts.{leaf-met}
-use Rattle.theory.proofs.Duality.{NeverFalls}
 use Rattle.flow.specs.Numbers.{sum, those}
 use Rattle.flow.specs.Flow.{isLeaf, Linked, Carries, Found, Settled}
-use Rattle.flow.specs.Area.{InArea, IsEnd, Marked}
+use Rattle.area.specs.Area.{InArea, IsEnd}
+use Rattle.flow.specs.Area.{Marked}
 use Rattle.flow.proofs.Sums.{those-length, those-hold, those-all, those-rising, those-in}
 use Rattle.flow.proofs.Links.{used-come}
 use Rattle.flow.proofs.Counting.{Divides, no-more-paths}

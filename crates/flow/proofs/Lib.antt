@@ -14,3 +14,4 @@ pub mod Augmented
 pub mod Rounded
 pub mod Answered
 pub mod Listing
+pub mod Unique

@@ -16,7 +16,8 @@ use Rattle.theory.specs.Evidence.{InD, Run, TruePath, joined, Evidence}
 use Rattle.theory.proofs.Members.{rising-no-repeats}
 use Rattle.flow.specs.Numbers.{sum, those}
 use Rattle.flow.specs.Flow.{one, Linked, Carries}
-use Rattle.flow.specs.Area.{InArea, IsEnd, Marked}
+use Rattle.area.specs.Area.{InArea, IsEnd}
+use Rattle.flow.specs.Area.{Marked}
 use Rattle.flow.specs.Paths.{onward, follow}
 use Rattle.flow.proofs.Sums.{sum-front, sum-same, those-length, those-hold, those-rising}
 use Rattle.flow.proofs.Links.{used-come, come-used}

@@ -5,14 +5,13 @@ use mathlib.Core.List.{List, _++_}
 use lib.ListN.{length, take, drop, replicate}
 use lib.Seq.{sets}
 use Rattle.theory.specs.Net.{Net, Gate}
-use Rattle.theory.specs.Evidence.{Evidence, LeastCut}
-use Rattle.theory.proofs.Duality.{NeverFalls}
+use Rattle.theory.specs.Evidence.{Evidence, LeastCut, NeverFalls}
 use Rattle.drawing.specs.Table.{netIn}
 use Rattle.drawing.specs.declared.CutSize.{CutSize}
 use Rattle.walking.specs.Arrays.{Drawn, Ordered, Marks}
 use Rattle.flow.specs.declared.Flow.{Flow}
 use Rattle.flow.specs.declared.Flow.the-variants.{Paths, Cut}
-use Rattle.flow.specs.Area.{InArea, IsEnd}
+use Rattle.area.specs.Area.{InArea, IsEnd}
 use Rattle.flow.specs.Paths.{pathsIn}
 use Rattle.flow.specs.Turns.{Searched}
 use Rattle.flow.specs.Sweeps.{AllSettled}

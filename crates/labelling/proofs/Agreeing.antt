@@ -5,9 +5,8 @@ use mathlib.Core.Path.{_≡_, sym, ap, _∙_}
 use mathlib.Core.List.{List}
 use Rattle.theory.specs.Net.{Net}
 use Rattle.theory.specs.Walk.{Behind}
-use Rattle.theory.specs.Evidence.{Outside, LeastCut, MappersCut}
+use Rattle.theory.specs.Evidence.{Outside, LeastCut, MappersCut, NeverFalls}
 use Rattle.theory.proofs.Walks.{Tight, behind-walked}
-use Rattle.theory.proofs.Duality.{NeverFalls}
 use Rattle.theory.proofs.Rules.{peak-agrees, d-agrees}
 
 -- two labellings agree behind t

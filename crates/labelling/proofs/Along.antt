@@ -13,10 +13,10 @@ use Rattle.theory.specs.Sound.{Bounded, Ranked}
 use Rattle.theory.specs.Lists.{NoRepeats}
 use Rattle.theory.specs.Walk.{Walked, Behind}
 use Rattle.theory.specs.Cover.{Label}
-use Rattle.theory.specs.Evidence.{peak, LeastCut, MappersCut}
+use Rattle.theory.specs.Evidence.{peak, LeastCut, MappersCut, NeverFalls}
 use Rattle.theory.proofs.Walks.{Tight, cut-stops, reader-is-gate, walked-node, met-node, input-or-gate, gate-no-input}
 use Rattle.theory.proofs.Labels.{label-is-one, rules-are-labels}
-use Rattle.theory.proofs.Duality.{NeverFalls, evidence-is-tight}
+use Rattle.theory.proofs.Duality.{evidence-is-tight}
 use Rattle.theory.proofs.Rules.{peak-agrees}
 use Rattle.theory.proofs.Existence.{rules-exist}
 use Rattle.theory.proofs.FlowMap.{Labels, labels-at-inputs, label-peaked, label-over-inputs, label-at-peak, labels-never-fall}

@@ -11,7 +11,7 @@ use lib.ListN.{length, getD}
 use Rattle.theory.specs.Net.{Net, Gate, Input}
 use Rattle.theory.specs.Sound.{Bounded, Ranked}
 use Rattle.theory.specs.Cover.{Label}
-use Rattle.theory.specs.Evidence.{peak, Evidence, LeastCut, MappersCut}
+use Rattle.theory.specs.Evidence.{peak, Evidence, LeastCut, MappersCut, Owes}
 use Rattle.theory.proofs.Walks.{cut-stops, input-or-gate}
 use Rattle.theory.proofs.Duality.{evidence-is-tight}
 use Rattle.theory.proofs.Rules.{peak-agrees}
@@ -19,7 +19,7 @@ use Rattle.theory.proofs.Members.{greatest-at-most}
 use Rattle.theory.proofs.FlowMap.{Labels, labels-at-inputs, label-peaked, label-at-peak, labels-never-fall}
 use Rattle.walking.specs.Arrays.{Ordered}
 use Rattle.area.proofs.Areas.{input-in-area}
-use Rattle.labelling.specs.Labelling.{TrueLabel, LabelledTo, Owes}
+use Rattle.labelling.specs.Labelling.{TrueLabel, LabelledTo}
 use Rattle.labelling.proofs.Along.{place-gate, true-label, true-labels, agree-behind}
 
 place-of : {v : ℕ} {l : List ℕ} → List·Memᴰ v l → (j : ℕ) × (j < length l) × (getD l j 0 ≡ v)

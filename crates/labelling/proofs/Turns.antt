@@ -7,12 +7,11 @@ use mathlib.Core.List.{List}
 use lib.ListN.{length, getD}
 use Rattle.theory.specs.Net.{Net, Gate}
 use Rattle.theory.specs.Sound.{Ranked}
-use Rattle.theory.specs.Evidence.{peak, Evidence, LeastCut}
+use Rattle.theory.specs.Evidence.{peak, Evidence, LeastCut, NeverFalls}
 use Rattle.drawing.specs.Table.{netIn}
 use Rattle.walking.specs.Arrays.{Drawn, Ordered}
 use Rattle.area.specs.Area.{labelIn, Fed}
 use Rattle.area.proofs.Parts.{fed-in}
-use Rattle.theory.proofs.Duality.{NeverFalls}
 use Rattle.labelling.specs.Labelling.{Told}
 use Rattle.labelling.specs.Storing.{Stored, StoredAbove, AboveRoom, Room, Begun, Labelling}
 use Rattle.labelling.proofs.Along.{place-gate, never-falls-here}

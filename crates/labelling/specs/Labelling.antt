@@ -24,8 +24,3 @@ pub record LabelledTo (net : Net) (k : ℕ) (order : List ℕ) (i : ℕ) (lab : 
   pub inputs : (v : ℕ) → Input net v → lab v ≡ 0
   pub label : (j : ℕ) → j < i → TrueLabel net k (getD order j 0) (lab (getD order j 0))
   pub cut : (j : ℕ) → j < i → MappersCut net k lab (getD order j 0) (choice (getD order j 0))
-
--- "Evidence that a label is p + 1, for p at least 1": the gate owes evidence.
-pub record Owes (net : Net) (lab : ℕ → ℕ) (t : ℕ) : Type 0 where
-  pub above : lab t ≡ suc (peak net lab t)
-  pub some : 1 ≤ peak net lab t

@@ -1,2 +1,3 @@
 pub mod Labelling
 pub mod Storing
+pub mod Labels

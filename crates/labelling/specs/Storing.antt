@@ -1,7 +1,7 @@
 -- Labels and cuts in arrays: a label a node, six places a node for its leaves, and how many of them are used.
 use Prim.Native.Nat.{ℕ, suc, _+_, _*_, _≤_, _<_}
 use mathlib.Core.Path.{_≡_}
-use mathlib.Core.Bool.{Bool, true, false}
+use mathlib.Core.Bool.{true, false}
 use mathlib.Core.Logic.{_⊎_}
 use mathlib.Core.List.{List, List·Memᴰ}
 use lib.ListN.{length, getD, set, take, drop, replicate}
@@ -101,8 +101,3 @@ pub record StoredAbove (fan count : List ℕ) (gate p : ℕ) (labels leaves size
   pub cut : List ℕ
   pub distinct : (inputs nodes : ℕ) → gate < nodes → DistinctFanins (netIn inputs nodes fan count) gate cut
   pub stored : Stored gate (suc p) cut labels leaves sizes labels′ leaves′ sizes′
-
--- A bool that tells whether P holds.
-pub record Tells (P : Type 0) (r : Bool) : Type 0 where
-  pub yes : r ≡ true → P
-  pub no : r ≡ false → P → ⊥

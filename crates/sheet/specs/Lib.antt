@@ -3,3 +3,5 @@ pub mod Encoding
 pub mod Writing
 pub mod Longest
 pub mod Shape
+pub mod Rules
+pub mod Arrays

@@ -10,13 +10,9 @@ use Rattle.theory.specs.Net.{Net, Gate}
 use Rattle.theory.specs.Sound.{Bounded}
 use Rattle.theory.specs.Lists.{NoRepeats}
 use Rattle.theory.specs.Walk.{Walked, Met, Behind}
-use Rattle.theory.specs.Evidence.{peak, InD, Outside, Run, TruePath, joined, Evidence}
+use Rattle.theory.specs.Evidence.{peak, InD, Outside, Run, TruePath, joined, Evidence, NeverFalls}
 use Rattle.theory.proofs.Members.{no-longer, at-most-greatest, no-repeats-after, no-repeats-apart}
 use Rattle.theory.proofs.Walks.{Stops, Tight, walk-on, behind-on, behind-walked, walk-goes-on, leaf-or-walked, met-node, reader-is-gate}
-
--- behind t, no node's number is below that of one of its fanins
-abbrev pub NeverFalls : Net → (ℕ → ℕ) → ℕ → Type 0
-NeverFalls net lab t = (g u : ℕ) → Behind net t g → List·Memᴰ u (net .fanins g) → lab u ≤ lab g
 
 -- a leaf on a path
 abbrev pub Crossing : List ℕ → List ℕ → Type 0

@@ -9,11 +9,10 @@ use Rattle.theory.specs.Net.{Net, Gate}
 use Rattle.theory.specs.Sound.{Bounded, Ranked}
 use Rattle.theory.specs.Walk.{Cut}
 use Rattle.theory.specs.Cover.{Label}
-use Rattle.theory.specs.Evidence.{peak, Outside}
+use Rattle.theory.specs.Evidence.{peak, Outside, NeverFalls}
 use Rattle.theory.proofs.Walks.{cut-stops, met-node}
 use Rattle.theory.proofs.Bounds.{Unbeaten, ZeroAtInputs}
 use Rattle.theory.proofs.Labels.{Peaked, LocalRule, LocalRules, label-is-one, rules-are-labels, rules-unbeaten, peaked-rises, low-outside}
-use Rattle.theory.proofs.Duality.{NeverFalls}
 use Rattle.theory.proofs.Rules.{rule-agrees, peaked-never-fall}
 use Rattle.theory.proofs.Existence.{rules-exist}
 

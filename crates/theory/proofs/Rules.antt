@@ -11,14 +11,14 @@ use Rattle.theory.specs.Sound.{Bounded, Ranked}
 use Rattle.theory.specs.Lists.{greatest}
 use Rattle.theory.specs.Walk.{Walked, Behind, Cut}
 use Rattle.theory.specs.Cover.{Label}
-use Rattle.theory.specs.Evidence.{peak, InD, Outside, Evidence, DistinctFanins}
+use Rattle.theory.specs.Evidence.{peak, InD, Outside, Evidence, DistinctFanins, NeverFalls}
 use Rattle.theory.proofs.Members.{at-most-greatest, greatest-at-most}
 use Rattle.theory.proofs.Picks.{map-agree}
 use Rattle.theory.proofs.Walks.{Tight, met-behind, met-node, reader-is-gate, input-or-gate}
 use Rattle.theory.proofs.Cuts.{cut-of-fanins}
 use Rattle.theory.proofs.Bounds.{ZeroAtInputs}
 use Rattle.theory.proofs.Labels.{Peaked, LocalRule, LocalRules, peaked-rises, rules-are-labels}
-use Rattle.theory.proofs.Duality.{NeverFalls, behind-low, evidence-is-tight}
+use Rattle.theory.proofs.Duality.{behind-low, evidence-is-tight}
 
 -- The rule rests on the numbers behind
 

@@ -47,6 +47,15 @@ pub record Evidence (net : Net) (k : ℕ) (lab : ℕ → ℕ) (t : ℕ) (paths :
   pub each : (path : List ℕ) → List·Memᴰ path paths → TruePath net lab t path
   pub apart : NoRepeats (joined paths)
 
+-- "Evidence that a label is p + 1, for p at least 1": the gate owes evidence.
+pub record Owes (net : Net) (lab : ℕ → ℕ) (t : ℕ) : Type 0 where
+  pub above : lab t ≡ suc (peak net lab t)
+  pub some : 1 ≤ peak net lab t
+
+-- Behind t the numbers never fall along fanins.
+abbrev pub NeverFalls : Net → (ℕ → ℕ) → ℕ → Type 0
+NeverFalls net lab t = (g u : ℕ) → Behind net t g → List·Memᴰ u (net .fanins g) → lab u ≤ lab g
+
 -- "of the cuts outside D with fewest leaves, the one whose cone contains the cones of all the others"
 pub record LeastCut (net : Net) (k : ℕ) (lab : ℕ → ℕ) (t : ℕ) (leaves : List ℕ) : Type 0 where
   pub cut : Cut net k t leaves

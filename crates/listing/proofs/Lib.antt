@@ -1,0 +1,5 @@
+pub mod Examples
+pub mod Puts
+pub mod Numbers
+pub mod Rooms
+pub mod Listed

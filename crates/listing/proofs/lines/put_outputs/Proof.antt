@@ -1,0 +1,64 @@
+-- `put_outputs` meets its contract: what is left to put is the text of the other outputs.
+use native.Mathlib.Omega.{arith}
+use Prim.Native.Nat.{_≤_, _-_}
+use denote.Ref.{now}
+use lib.ListN.{take, drop}
+use Rattle.listing.specs.Text.{each}
+use Rattle.listing.specs.Arrays.{outputText}
+use Rattle.listing.proofs.Puts.{Left, left-start}
+use Rattle.listing.proofs.Listed.{each-room, each-turn, each-end, part-entry, part-passed}
+use Rattle.listing.proofs.lines.put_outputs.Statement.{statement}
+use Rattle.listing.proofs.lines.put_outputs.Tie as tie
+
+abbrev Inv-loop : tie.InvT-loop
+Inv-loop labels outputs number text₀ at next₀ i₀ text next i = (i ≤ number) × Left text₀ at (each (outputText labels) (take number outputs)) text next (each (outputText labels) (drop i (take number outputs)))
+
+abbrev μ-loop : tie.MeasureT-loop
+μ-loop labels outputs number text₀ at next₀ i₀ text next i = number - i
+
+loop-holds : tie.Need-loop-holds Inv-loop μ-loop
+loop-holds c = (omega arith, left-start _ _ _ (c .before .before .before .pre .1 .1))
+
+mul-t9 : tie.Need-mul-t9 Inv-loop μ-loop
+mul-t9 c = omega arith
+
+shared-slice-read-t11 : tie.Need-shared-slice-read-t11 Inv-loop μ-loop
+shared-slice-read-t11 c = omega arith
+
+put-output-requires : tie.Need-put-output-requires Inv-loop μ-loop
+put-output-requires c κs =
+    let entry = part-entry (now (c .before .before .before .before .before .before .before .args .outputs)) (c .before .before .before .before .before .before .before .args .number) (c .before .before .before .loop .i) (c .before .before .loop-test .taken) (c .before .before .before .before .before .before .before .pre .0) in
+    (c .before .before .before .before .before .before .before .pre .1 .0 (c .before .before .before .loop .i) (c .before .before .loop-test .taken), each-room (outputText (now (c .before .before .before .before .before .before .before .args .labels))) (take (c .before .before .before .before .before .before .before .args .number) (now (c .before .before .before .before .before .before .before .args .outputs))) (c .before .before .before .loop .inv .1) (entry .0) (entry .1))
+
+add-i : tie.Need-add-i Inv-loop μ-loop
+add-i c = omega arith
+
+loop-less : tie.Need-loop-less Inv-loop μ-loop
+loop-less c = omega arith
+
+loop-again : tie.Need-loop-again Inv-loop μ-loop
+loop-again c =
+    let entry = part-entry (now (c .before .before .before .before .before .before .before .before .before .before .args .outputs)) (c .before .before .before .before .before .before .before .before .before .before .args .number) (c .before .before .before .before .before .before .loop .i) (c .before .before .before .before .before .loop-test .taken) (c .before .before .before .before .before .before .before .before .before .before .pre .0) in
+    (omega arith, each-turn (outputText (now (c .before .before .before .before .before .before .before .before .before .before .args .labels))) (take (c .before .before .before .before .before .before .before .before .before .before .args .number) (now (c .before .before .before .before .before .before .before .before .before .before .args .outputs))) (c .before .before .before .before .before .before .loop .inv .1) (entry .0) (entry .1) (c .before .before .put-output .ensures))
+
+same-length : tie.Need-same-length Inv-loop μ-loop
+same-length c = c .before .loop .inv .1 .size
+
+returns : tie.Need-returns Inv-loop μ-loop
+returns c = each-end (outputText (now (c .before .before .before .before .before .args .labels))) (take (c .before .before .before .before .before .args .number) (now (c .before .before .before .before .before .args .outputs))) (c .before .loop .inv .1) (part-passed (now (c .before .before .before .before .before .args .outputs)) (c .before .before .before .before .before .args .number) (c .before .loop .i) (c .loop-test .left))
+
+pub put-outputs-spec : {M : Type 1} → statement M
+put-outputs-spec =
+    tie.close
+    (tie.spec
+    Inv-loop
+    μ-loop
+    loop-holds
+    mul-t9
+    shared-slice-read-t11
+    put-output-requires
+    add-i
+    loop-less
+    loop-again
+    same-length
+    returns)

@@ -1,0 +1,129 @@
+-- Rules 25 to 30: what a sheet whose shape is sound has to keep, each at its gate or LUT, in the order in which they are tried.
+use Prim.Native.Nat.{ℕ, zero, suc, _+_, _-_}
+use mathlib.Core.Path.{_≡_}
+use mathlib.Core.Bool.{Bool, true, false, cond, _||_}
+use mathlib.Core.Logic.{_⊎_}
+use mathlib.Core.List.{List, [], _∷_, _++_, map, flatMap}
+use lib.ListN.{length, getD}
+use lib.Dec.{ltb, eqb}
+use Rattle.theory.specs.Net.{Net}
+use Rattle.theory.specs.Lists.{greatest}
+use Rattle.theory.specs.Walk.{Cut}
+use Rattle.theory.specs.Cover.{Luts, Wanted, Depths}
+use Rattle.theory.specs.Evidence.{peak, Evidence, Owes}
+use Rattle.theory.specs.Lookup.{ConeTable}
+use Rattle.sheet.specs.Sheet.{Line, Lut, Sheet, noLine}
+
+-- "From pass two on, labels, p and D are those of the sheet": 0 at an input, else the label in the gate's line
+unfoldable pub lineOfNode : (inputs : ℕ) → List Line → ℕ → Line
+lineOfNode inputs lines v = cond (ltb v inputs) noLine (getD lines (v - inputs) noLine)
+
+abbrev pub labelsOf : (inputs : ℕ) → List Line → ℕ → ℕ
+labelsOf inputs lines v = lineOfNode inputs lines v .label
+
+-- the LUTs listed, as a set of LUTs
+unfoldable pub isListed : List Lut → ℕ → Bool
+isListed [] v = false
+isListed (lut ∷ luts) v = eqb (lut .root) v || isListed luts v
+
+unfoldable pub leavesListed : List Lut → ℕ → List ℕ
+leavesListed [] v = []
+leavesListed (lut ∷ luts) v = cond (eqb (lut .root) v) (lut .leaves) (leavesListed luts v)
+
+unfoldable pub tableListed : List Lut → ℕ → ℕ
+tableListed [] v = 0
+tableListed (lut ∷ luts) v = cond (eqb (lut .root) v) (lut .table) (tableListed luts v)
+
+abbrev pub lutsOf : List Lut → Luts
+lutsOf luts = record { root = isListed luts; leaves = leavesListed luts }
+
+-- a rule, with the gate or LUT at which it is tried
+pub data Rule : Type 0 where
+  cut : (gate : ℕ) (leaves : List ℕ) → Rule
+  label : (gate : ℕ) → Rule
+  paths : (gate : ℕ) → Rule
+  function : Lut → Rule
+  cover : (gate : ℕ) → Rule
+  depth : Rule
+
+-- "the paper's number" of a rule, and the place that its refusal names: "gate id for 25 to 29 (lowest for 28); 0 for 30"
+abbrev pub ruleNumber : Rule → ℕ
+ruleNumber (Rule.cut gate leaves) = 25
+ruleNumber (Rule.label gate) = 26
+ruleNumber (Rule.paths gate) = 27
+ruleNumber (Rule.cover gate) = 28
+ruleNumber (Rule.function lut) = 29
+ruleNumber Rule.depth = 30
+
+abbrev pub rulePlace : Rule → ℕ
+rulePlace (Rule.cut gate leaves) = gate
+rulePlace (Rule.label gate) = gate
+rulePlace (Rule.paths gate) = gate
+rulePlace (Rule.cover gate) = gate
+rulePlace (Rule.function lut) = lut .root
+rulePlace Rule.depth = 0
+
+-- 26, kept: the label is "1 + the greatest leaf label", and p or p + 1
+pub record LabelKept (net : Net) (lab : ℕ → ℕ) (leaves : List ℕ) (t : ℕ) : Type 0 where
+  pub shown : lab t ≡ suc (greatest (map lab leaves))
+  pub near : (lab t ≡ peak net lab t) ⊎ (lab t ≡ suc (peak net lab t))
+
+-- 27, kept: evidence where it is due, and true; none where it is not
+pub record PathsKept (net : Net) (k : ℕ) (lab : ℕ → ℕ) (t : ℕ) (paths : List (List ℕ)) : Type 0 where
+  pub due : Owes net lab t → Evidence net k lab t paths
+  pub not-due : (Owes net lab t → ⊥) → paths ≡ []
+
+-- 28, kept at a gate: it is a root if it is "an output or a leaf of any listed LUT", and only then
+pub record CoverKept (outputs : List ℕ) (luts : Luts) (g : ℕ) : Type 0 where
+  pub wanted : Wanted outputs luts g → luts .root g ≡ true
+  pub root : luts .root g ≡ true → Wanted outputs luts g
+
+-- 30, kept: "head's depth, the cover's depth and the greatest output label" are all equal
+pub record DepthKept (net : Net) (lab : ℕ → ℕ) (outputs : List ℕ) (luts : Luts) (depth : ℕ) : Type 0 where
+  pub reached : Depths net luts outputs depth
+  pub labelled : greatest (map lab outputs) ≡ depth
+
+-- the numbers from `v` on, `count` of them
+unfoldable pub from : (v count : ℕ) → List ℕ
+from v zero = []
+from v (suc count) = v ∷ from (suc v) count
+
+module _ (net : Net) (tables : ℕ → ℕ) (k : ℕ) (outputs : List ℕ) (sheet : Sheet) where
+  unfoldable pub Keeps : Rule → Type 0
+  Keeps (Rule.cut gate leaves) = Cut net k gate leaves
+  Keeps (Rule.label gate) =
+      LabelKept net (labelsOf (net .inputs) (sheet .lines)) (lineOfNode (net .inputs) (sheet .lines) gate .leaves) gate
+  Keeps (Rule.paths gate) =
+      PathsKept net k (labelsOf (net .inputs) (sheet .lines)) gate (lineOfNode (net .inputs) (sheet .lines) gate .paths)
+  Keeps (Rule.function lut) = ConeTable net tables (lut .leaves) (lut .root) (lut .table)
+  Keeps (Rule.cover gate) = CoverKept outputs (lutsOf (sheet .luts)) gate
+  Keeps Rule.depth = DepthKept net (labelsOf (net .inputs) (sheet .lines)) outputs (lutsOf (sheet .luts)) (sheet .depth)
+
+-- "Pass two tries 25, 26, 27 on each gate"
+abbrev pub gateRules : (inputs : ℕ) → List Line → ℕ → List Rule
+gateRules inputs lines t = Rule.cut t (lineOfNode inputs lines t .leaves) ∷ Rule.label t ∷ Rule.paths t ∷ []
+
+-- "pass three 25, 29 on each LUT"
+abbrev pub lutRules : Lut → List Rule
+lutRules lut = Rule.cut (lut .root) (lut .leaves) ∷ Rule.function lut ∷ []
+
+-- "gates rising, LUTs rising, whole": the gates, the LUTs as they are listed, then "28, then 30"
+abbrev pub gates : Net → List ℕ
+gates net = from (net .inputs) (net .nodes - net .inputs)
+
+abbrev pub rulesOf : Net → Sheet → List Rule
+rulesOf net sheet =
+    flatMap (gateRules (net .inputs) (sheet .lines)) (gates net)
+    ++ flatMap lutRules (sheet .luts)
+    ++ map Rule.cover (gates net)
+    ++ (Rule.depth ∷ [])
+
+-- the first rule of a list that is not kept, or none
+pub data Found : Type 0 where
+  none : Found
+  broken : Rule → Found
+
+pub data FirstBroken (Kept : Rule → Type 0) : List Rule → Found → Type 0 where
+  kept : FirstBroken Kept [] Found.none
+  here : {r : Rule} {rs : List Rule} → (Kept r → ⊥) → FirstBroken Kept (r ∷ rs) (Found.broken r)
+  later : {r : Rule} {rs : List Rule} {x : Found} → Kept r → FirstBroken Kept rs x → FirstBroken Kept (r ∷ rs) x
