@@ -16,7 +16,7 @@ use Rattle.covering.specs.Cones.{ConeAsked, ConeAnswered}
 use Rattle.covering.specs.Covers.{isRoot, lutCount, CoverMade}
 
 -- two lists that agree at the nodes, and beyond them with a third, are equal
-agree : (nodes : ℕ) (before a b : List ℕ) → length a ≡ length before → length b ≡ length before →
+pub agree : (nodes : ℕ) (before a b : List ℕ) → length a ≡ length before → length b ≡ length before →
     ((v : ℕ) → v < nodes → getD a v 0 ≡ getD b v 0) →
     ((v : ℕ) → nodes ≤ v → getD a v 0 ≡ getD before v 0) → ((v : ℕ) → nodes ≤ v → getD b v 0 ≡ getD before v 0) → a ≡ b
 agree nodes before a b la lb inside oa ob = ext-getD 0 a b (la ∙ sym lb) (λ v _. by v (decLt v nodes))
@@ -25,7 +25,7 @@ agree nodes before a b la lb inside oa ob = ext-getD 0 a b (la ∙ sym lb) (λ v
     by v (yes low) = inside v low
     by v (no high) = let beyond : nodes ≤ v = omega arith in oa v beyond ∙ sym (ob v beyond)
 
-cleared-once : (nodes : ℕ) (before a b : List ℕ) → Cleared nodes before a → Cleared nodes before b → a ≡ b
+pub cleared-once : (nodes : ℕ) (before a b : List ℕ) → Cleared nodes before a → Cleared nodes before b → a ≡ b
 cleared-once nodes before a b ca cb =
     agree nodes before a b (ca .long) (cb .long) (λ v low. ca .zero v low ∙ sym (cb .zero v low)) (ca .beyond) (cb .beyond)
 

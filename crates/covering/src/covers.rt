@@ -21,7 +21,7 @@ fn mark_gate(node: Node, inputs: usize, root: &mut [u8])
 }
 
 // The gates among the `many` nodes from place `at` on are marked.
-fn mark_gates(ids: &[u16], at: usize, many: usize, inputs: usize, root: &mut [u8])
+pub fn mark_gates(ids: &[u16], at: usize, many: usize, inputs: usize, root: &mut [u8])
     requires { ⌜ GatesFit (now ids) at many (length (now root)) ⌝ }
     ensures { λ _. ⌜ GatesMarked (now (ids .entry)) at many inputs (now (root .entry)) (now (root .exit)) ⌝ }
 {

@@ -41,7 +41,7 @@ word-room n i few small =
     let wide : 2 ^ (8 * i) ≤ 2 ^ 64 = pow-mono {i = 8 * i} {j = 64} (omega arith) in
     omega arith
 
-some-from-append : (n : ℕ) (vs ws : List ℕ) → someFrom n (vs ++ ws) ≡ (someFrom n vs || someFrom n ws)
+pub some-from-append : (n : ℕ) (vs ws : List ℕ) → someFrom n (vs ++ ws) ≡ (someFrom n vs || someFrom n ws)
 unfolding someFrom
 some-from-append n [] ws = refl
 some-from-append n (v ∷ vs) ws = ap (λ (b : Bool). leb n v || b) (some-from-append n vs ws) ∙ sym (or-assoc (leb n v) (someFrom n vs) (someFrom n ws))

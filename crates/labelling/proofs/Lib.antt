@@ -7,3 +7,6 @@ pub mod One
 pub mod Turns
 pub mod Fanins
 pub mod Telling
+pub mod Scratches
+pub mod Probes
+pub mod Evidences

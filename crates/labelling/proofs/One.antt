@@ -1,26 +1,35 @@
--- What labelling promises is one content of the arrays: labels are one number, the mapper's cut is one list, and all else is as before.
-use Prim.Native.Nat.{ℕ, _+_, _*_, _/_, _%_, _<_}
+-- What labelling promises is one content of the arrays: labels are one number, the mapper's cut is one list, and all else is as before. Of found
+-- evidence all but the links is one.
+use Prim.Native.Nat.{ℕ, _+_, _*_, _/_, _%_, _≤_, _<_}
 use native.Mathlib.Decide.{decLt}
 use native.Mathlib.Omega.{arith}
-use mathlib.Core.Path.{_≡_, sym, ap, _∙_}
+use mathlib.Core.Path.{_≡_, refl, sym, ap, _∙_}
 use mathlib.Core.Logic.{_⊎_, inl, inr}
 use mathlib.Core.List.{List, []}
-use lib.ListN.{length, getD}
+use lib.ListN.{length, getD, drop, length-drop}
 use lib.Seq.{ext-getD}
 use Rattle.theory.specs.Net.{Net, Gate, Input}
 use Rattle.theory.specs.Sound.{Bounded, Ranked}
 use Rattle.theory.proofs.Walks.{input-or-gate}
 use Rattle.theory.proofs.Labels.{label-is-one}
 use Rattle.theory.proofs.MappersCuts.{mappers-cut-is-one}
+use Rattle.drawing.specs.Table.{netIn}
 use Rattle.area.proofs.Marking.{drop-agrees}
 use Rattle.labelling.specs.Storing.{cutIn, LabellingMade}
+use Rattle.labelling.specs.Labels.{Scratch, scratchOf, MarksCleared, LabelsMade, EvidenceFound}
 use Rattle.labelling.proofs.Places.{cut-entry, cut-length}
+
+-- lists that agree beyond n, with room for n in both
+same-size : (n : ℕ) (l m : List ℕ) → n ≤ length l → n ≤ length m → drop n l ≡ drop n m → length l ≡ length m
+same-size n l m a b e = omega (arith, length-drop n l, length-drop n m, ap (λ (x : List ℕ). length x) e)
 
 module _ {net : Net} {k : ℕ} (bounded : Bounded net k) (ranked : Ranked net) {labels₀ leaves₀ sizes₀ : List ℕ}
     {labels leaves sizes labels′ leaves′ sizes′ : List ℕ} (a : LabellingMade net k labels₀ leaves₀ sizes₀ labels leaves sizes)
     (b : LabellingMade net k labels₀ leaves₀ sizes₀ labels′ leaves′ sizes′) where
-  pub labels-one : length labels ≡ length labels′ → labels ≡ labels′
-  labels-one size = ext-getD 0 labels labels′ size (λ v _. by-place v (decLt v (net .nodes)))
+  pub labels-one : labels ≡ labels′
+  labels-one =
+      ext-getD 0 labels labels′ (same-size (net .nodes) labels labels′ (a .room .labels-long) (b .room .labels-long) (a .rest .labels-beyond ∙ sym (b .rest .labels-beyond)))
+      (λ v _. by-place v (decLt v (net .nodes)))
     where
       by-place : (v : ℕ) → Dec (v < net .nodes) → getD labels v 0 ≡ getD labels′ v 0
       by-place v (yes low) = label-is-one (a .label v low []) (b .label v low [])
@@ -43,8 +52,10 @@ module _ {net : Net} {k : ℕ} (bounded : Bounded net k) (ranked : Ranked net) {
         by-kind (inl i) = a .inputs-none v i ∙ sym (b .inputs-none v i)
         by-kind (inr gate) = sym (size-a v low) ∙ ap (λ (l : List ℕ). length l) (cuts-one gate) ∙ size-b v low
 
-    pub sizes-one : length sizes ≡ length sizes′ → sizes ≡ sizes′
-    sizes-one size = ext-getD 0 sizes sizes′ size (λ v _. by-place v (decLt v (net .nodes)))
+    pub sizes-one : sizes ≡ sizes′
+    sizes-one =
+        ext-getD 0 sizes sizes′ (same-size (net .nodes) sizes sizes′ (a .room .sizes-long) (b .room .sizes-long) (a .rest .sizes-beyond ∙ sym (b .rest .sizes-beyond)))
+        (λ v _. by-place v (decLt v (net .nodes)))
       where
         by-place : (v : ℕ) → Dec (v < net .nodes) → getD sizes v 0 ≡ getD sizes′ v 0
         by-place v (yes low) = size-one v low
@@ -65,11 +76,71 @@ module _ {net : Net} {k : ℕ} (bounded : Bounded net k) (ranked : Ranked net) {
         by-use (yes less) (inr gate) = used less gate
         by-use (yes less) (inl input) = let none = a .inputs-none v input in absurd (omega arith)
 
-    pub leaves-one : length leaves ≡ length leaves′ → leaves ≡ leaves′
-    leaves-one size = ext-getD 0 leaves leaves′ size (λ n _. by-place n (decLt n (6 * net .nodes)))
+    pub leaves-one : leaves ≡ leaves′
+    leaves-one =
+        ext-getD 0 leaves leaves′ (same-size (6 * net .nodes) leaves leaves′ (a .room .leaves-long) (b .room .leaves-long) (a .rest .leaves-beyond ∙ sym (b .rest .leaves-beyond)))
+        (λ n _. by-place n (decLt n (6 * net .nodes)))
       where
         by-place : (n : ℕ) → Dec (n < 6 * net .nodes) → getD leaves n 0 ≡ getD leaves′ n 0
         by-place n (yes low) =
             let e : 6 * (n / 6) + n % 6 ≡ n = omega arith in
             ap (λ (w : ℕ). getD leaves w 0) (sym e) ∙ place-one (n / 6) (n % 6) (omega arith) (omega arith) ∙ ap (λ (w : ℕ). getD leaves′ w 0) e
         by-place n (no high) = drop-agrees (6 * net .nodes) leaves leaves′ (a .rest .leaves-beyond ∙ sym (b .rest .leaves-beyond)) n (omega arith)
+
+-- The promise of `label_gates`
+
+-- the scratch, with other links
+abbrev withLinks : Scratch → (next prev : List ℕ) → Scratch
+withLinks s next prev = scratchOf (s .walked) (s .met) (s .deep) (s .area) (s .ends) next prev (s .ins) (s .outs) (s .parent)
+
+marks-one : {nodes : ℕ} {s₀ s s′ : Scratch} → MarksCleared nodes s₀ s → MarksCleared nodes s₀ s′ → {next prev next′ prev′ : List ℕ} →
+    next ≡ next′ → prev ≡ prev′ → withLinks s next prev ≡ withLinks s′ next′ prev′
+marks-one a b next-same prev-same = λ j.
+    record {
+      walked = (a .walked-clear ∙ sym (b .walked-clear)) j;
+      met = (a .met-clear ∙ sym (b .met-clear)) j;
+      deep = (a .deep-clear ∙ sym (b .deep-clear)) j;
+      area = (a .area-clear ∙ sym (b .area-clear)) j;
+      ends = (a .ends-clear ∙ sym (b .ends-clear)) j;
+      next = next-same j;
+      prev = prev-same j;
+      ins = (a .in-clear ∙ sym (b .in-clear)) j;
+      outs = (a .out-clear ∙ sym (b .out-clear)) j;
+      parent = (a .parent-clear ∙ sym (b .parent-clear)) j;
+    }
+
+pub record OneLabelling (labels leaves sizes : List ℕ) (s : Scratch) (labels′ leaves′ sizes′ : List ℕ) (s′ : Scratch) : Type 0 where
+  pub labels-same : labels ≡ labels′
+  pub leaves-same : leaves ≡ leaves′
+  pub sizes-same : sizes ≡ sizes′
+  pub scratch-same : s ≡ s′
+
+module _ {inputs nodes k : ℕ} {fan count : List ℕ} (bounded : Bounded (netIn inputs nodes fan count) k) (ranked : Ranked (netIn inputs nodes fan count)) where
+  pub labels-made-one : {labels₀ leaves₀ sizes₀ labels leaves sizes labels′ leaves′ sizes′ : List ℕ} {s₀ s s′ : Scratch} →
+      LabelsMade inputs nodes k fan count labels₀ leaves₀ sizes₀ s₀ labels leaves sizes s →
+      LabelsMade inputs nodes k fan count labels₀ leaves₀ sizes₀ s₀ labels′ leaves′ sizes′ s′ →
+      OneLabelling labels leaves sizes s labels′ leaves′ sizes′ s′
+  labels-made-one a b =
+      let same = labels-one bounded ranked (a .made) (b .made) in
+      record {
+        labels-same = same;
+        leaves-same = leaves-one bounded ranked (a .made) (b .made) same;
+        sizes-same = sizes-one bounded ranked (a .made) (b .made) same;
+        scratch-same = marks-one (a .marks) (b .marks) (a .links .next-clear ∙ sym (b .links .next-clear)) (a .links .prev-clear ∙ sym (b .links .prev-clear));
+      }
+
+-- The promise of `find_evidence`: "any true set will do", so the links within the nodes are free.
+
+pub record OneButLinks (nodes : ℕ) (s s′ : Scratch) : Type 0 where
+  pub marks-same : (next prev : List ℕ) → withLinks s next prev ≡ withLinks s′ next prev
+  pub next-beyond : drop nodes (s .next) ≡ drop nodes (s′ .next)
+  pub prev-beyond : drop nodes (s .prev) ≡ drop nodes (s′ .prev)
+
+pub evidence-found-one : {inputs nodes k : ℕ} {fan count labels : List ℕ} {t : ℕ} {s₀ s s′ : Scratch} →
+    EvidenceFound inputs nodes k fan count labels t s₀ s → EvidenceFound inputs nodes k fan count labels t s₀ s′ → OneButLinks nodes s s′
+evidence-found-one a b =
+    record {
+      marks-same = λ next prev. marks-one (a .marks) (b .marks) refl refl;
+      next-beyond = a .next-beyond ∙ sym (b .next-beyond);
+      prev-beyond = a .prev-beyond ∙ sym (b .prev-beyond);
+    }

@@ -1,4 +1,4 @@
-// Labels and cut sizes into their arrays.
+// Labels and cut sizes into their arrays, and zeros into the first entries of any.
 use drawing::CutSize;
 use drawing::Label;
 use drawing::Node;
@@ -7,26 +7,24 @@ ghost use mathlib.Core.Path.{_≡_};
 ghost use lib.ListN.{length, set, replicate};
 ghost use lib.Seq.{sets};
 
-// Inputs have label 0.
-pub fn clear_labels(labels: &mut [u16], inputs: usize)
-    requires { ⌜ inputs ≤ length (now labels) ⌝ }
-    ensures { λ _. ⌜ now (labels .exit) ≡ sets (now (labels .entry)) 0 (replicate inputs 0) ⌝ }
+pub fn clear_words(words: &mut [u16], many: usize)
+    requires { ⌜ many ≤ length (now words) ⌝ }
+    ensures { λ _. ⌜ now (words .exit) ≡ sets (now (words .entry)) 0 (replicate many 0) ⌝ }
 {
     let mut i = 0;
-    while i < inputs {
-        labels[i] = 0;
+    while i < many {
+        words[i] = 0;
         i += 1;
     }
 }
 
-// No node has leaves yet.
-pub fn clear_sizes(sizes: &mut [u8], nodes: usize)
-    requires { ⌜ nodes ≤ length (now sizes) ⌝ }
-    ensures { λ _. ⌜ now (sizes .exit) ≡ sets (now (sizes .entry)) 0 (replicate nodes 0) ⌝ }
+pub fn clear_bytes(bytes: &mut [u8], many: usize)
+    requires { ⌜ many ≤ length (now bytes) ⌝ }
+    ensures { λ _. ⌜ now (bytes .exit) ≡ sets (now (bytes .entry)) 0 (replicate many 0) ⌝ }
 {
     let mut i = 0;
-    while i < nodes {
-        sizes[i] = 0;
+    while i < many {
+        bytes[i] = 0;
         i += 1;
     }
 }

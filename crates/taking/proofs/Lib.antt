@@ -1,1 +1,2 @@
 pub mod Takings
+pub mod Judged

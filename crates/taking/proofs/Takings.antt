@@ -35,7 +35,7 @@ looser more b =
 
 module _ (a : Arrays) (s : List ℕ) (h : Head) (n : ℕ) (whole : reading a s ≡ read.Whole h n) {after : Arrays} (is : after ≡ filled a s)
     (fan-long : 1152 ≤ length (after .lines .fan)) (count-long : 192 ≤ length (after .lines .count)) where
-  same-net : netIn (h .inputs) (h .inputs + h .gates) (after .lines .fan) (after .lines .count) ≡ netOf (tableOf s)
+  pub same-net : netIn (h .inputs) (h .inputs + h .gates) (after .lines .fan) (after .lines .count) ≡ netOf (tableOf s)
   same-net =
       let known = read-whole a s h n whole in
       let holds : Holds s after = subst (Holds s) (sym is) (whole-holds a s (known .0) (known .1 .sound)) in

@@ -188,7 +188,7 @@ module _ {net : Net} {order : List ℕ} (ordered : Ordered net order) where
       rw (le-ltb v (net .inputs) (gate .above), same)
 
   module _ {k : ℕ} (bounded : Bounded net k) (out : (v : ℕ) → net .nodes ≤ v → net .fanins v ≡ []) where
-    rank-rises : (u g : ℕ) → List·Memᴰ u (net .fanins g) → rankIn net order u < rankIn net order g
+    pub rank-rises : (u g : ℕ) → List·Memᴰ u (net .fanins g) → rankIn net order u < rankIn net order g
     rank-rises u g m = with-place (place-of (ordered .all g gate))
       where
         node : Dec (g < net .nodes) → g < net .nodes
@@ -207,7 +207,7 @@ module _ {net : Net} {order : List ℕ} (ordered : Ordered net order) where
         with-place : Place g order → rankIn net order u < rankIn net order g
         with-place p = either p (input-or-gate u (bounded .nodes g gate u m))
 
-    pub ranked : Ranked net
+    unfoldable pub ranked : Ranked net
     ranked = record { rank = rankIn net order; rises = rank-rises }
 
 module _ {inputs nodes k : ℕ} {fan count : List ℕ} (drawn : Drawn inputs nodes k fan count) where

@@ -1,0 +1,4 @@
+pub mod Tables
+pub mod Mapper
+pub mod Roots
+pub mod Inspector

@@ -1,0 +1,232 @@
+-- The replies of passes three and four, as the first rule that is broken; and what pass three leaves for pass four: leaves before their roots.
+use Prim.Native.Nat.{ℕ, zero, suc, _+_, _*_, _-_, _≤_, _<_}
+use native.Mathlib.Decide.{ℕ-discrete}
+use native.Mathlib.Numerals.{add-one}
+use native.Mathlib.Omega.{arith}
+use mathlib.Core.Path.{_≡_, refl, ap, sym, subst, _∙_}
+use mathlib.Core.Bool.{Bool, true, false}
+use mathlib.Core.Logic.{_⊎_, inl, inr, ⊎-elim}
+use mathlib.Core.List.{List, [], _∷_, _++_, map, flatMap, List·Memᴰ, List·Memᴰ·head, List·Memᴰ·tail, List·Memᴰ·not-nil, List·Memᴰ·cases-cons}
+use lib.ListN.{length, getD, take, length-take}
+use lib.Seq.{getD-take}
+use Rattle.theory.specs.Net.{Net, Gate, Input}
+use Rattle.theory.specs.Lists.{greatest}
+use Rattle.theory.specs.Walk.{Cut, Met}
+use Rattle.theory.specs.Cover.{Luts, Depth, Depths}
+use Rattle.theory.specs.Lookup.{ConeTable}
+use Rattle.theory.proofs.Walks.{met-node}
+use Rattle.drawing.specs.Table.{netIn}
+use Rattle.walking.specs.Arrays.{Ordered}
+use Rattle.walking.proofs.Listings.{drawn-span}
+use Rattle.covering.specs.Covers.{Chosen, lutsIn}
+use Rattle.covering.proofs.Orders.{gate-of, gate-above, gate-below, order-gate, met-place}
+use Rattle.sheet.specs.Sheet.{Lut, Sheet, lutOf}
+use Rattle.sheet.specs.Rules.{Rule, Found, FirstBroken, Keeps, DepthKept, CoverKept, isListed, leavesListed, tableListed, lutsOf, lutRules, labelsOf, from, gates}
+use Rattle.weighing.specs.declared.luts.LutsJudged.{LutsJudged}
+use Rattle.weighing.specs.declared.luts.LutsJudged.the-variants as luts-judged
+use Rattle.weighing.specs.declared.whole.WholeJudged.{WholeJudged}
+use Rattle.weighing.specs.declared.whole.WholeJudged.the-variants as whole-judged
+use Rattle.weighing.specs.Laid.{DrawingLaid, LutsLaid}
+use Rattle.weighing.specs.PassThree.{LutKept, KeptBelow, LutsRuled}
+use Rattle.weighing.specs.PassFour.{CoveredBelow, WholeRuled}
+use Rattle.inspecting.specs.Holding.{Ascends, rootOf}
+use Rattle.inspecting.proofs.Firsts.{first-none, first-at, first-before, first-after}
+use Rattle.inspecting.proofs.Listed.{member-listed, listed-member, leaves-listed, table-listed, unlisted-leaves}
+
+-- Pass three
+
+-- the rule that a reply names
+abbrev pub foundLuts : List Lut → LutsJudged → Found
+foundLuts luts luts-judged.Kept = Found.none
+foundLuts luts (luts-judged.Cut g) = Found.broken (Rule.cut (g .id) (leavesListed luts (g .id)))
+foundLuts luts (luts-judged.Function g) = Found.broken (Rule.function (lutOf (g .id) (leavesListed luts (g .id)) (tableListed luts (g .id))))
+
+module _ (net : Net) (tables : ℕ → ℕ) (k : ℕ) (outputs : List ℕ) (sheet : Sheet) (luts : List Lut) {least : ℕ} (rise : Ascends rootOf least luts) (table : ℕ → ℕ)
+    (same : (v : ℕ) → isListed luts v ≡ true → table v ≡ tableListed luts v) where
+  table-is : {lut : Lut} → List·Memᴰ lut luts → table (lut .root) ≡ lut .table
+  table-is {lut} m = same (lut .root) (member-listed m) ∙ table-listed rise m
+
+  kept-rules : {lut : Lut} → List·Memᴰ lut luts → LutKept net tables k (lutsOf luts) table (lut .root) →
+      FirstBroken (Keeps net tables k outputs sheet) (lutRules lut) Found.none
+  unfolding Keeps
+  kept-rules {lut} m kept =
+      FirstBroken.later (rw (leaves-listed rise m) at (kept .cut)) (FirstBroken.later (rw (leaves-listed rise m, table-is m) at (kept .function)) FirstBroken.kept)
+
+  kept-before : {r : ℕ} → KeptBelow net tables k (lutsOf luts) table r → (y : Lut) → List·Memᴰ y luts → y .root < r →
+      FirstBroken (Keeps net tables k outputs sheet) (lutRules y) Found.none
+  kept-before below y m less = kept-rules m (below (y .root) less (member-listed m))
+
+  cut-at : {lut : Lut} → List·Memᴰ lut luts → KeptBelow net tables k (lutsOf luts) table (lut .root) → (Cut net k (lut .root) (leavesListed luts (lut .root)) → ⊥) →
+      FirstBroken (Keeps net tables k outputs sheet) (flatMap lutRules luts) (foundLuts luts (luts-judged.Cut (record { id = lut .root })))
+  unfolding Keeps
+  cut-at {lut} m below none =
+      let l = leaves-listed rise m in
+      rw l (first-at rise m (kept-before below) (FirstBroken.here (λ cut. none (rw l cut))))
+
+  function-at : {lut : Lut} → List·Memᴰ lut luts → KeptBelow net tables k (lutsOf luts) table (lut .root) → Cut net k (lut .root) (leavesListed luts (lut .root)) →
+      (ConeTable net tables (leavesListed luts (lut .root)) (lut .root) (table (lut .root)) → ⊥) →
+      FirstBroken (Keeps net tables k outputs sheet) (flatMap lutRules luts) (foundLuts luts (luts-judged.Function (record { id = lut .root })))
+  unfolding Keeps
+  function-at {lut} m below cut none =
+      let l = leaves-listed rise m in
+      rw (l, table-listed rise m)
+      (first-at rise m (kept-before below) (FirstBroken.later (rw l at cut) (FirstBroken.here (λ right. none (rw (l, table-is m) right)))))
+
+  pub luts-found : {r : LutsJudged} → LutsRuled net tables k (lutsOf luts) table r →
+      FirstBroken (Keeps net tables k outputs sheet) (flatMap lutRules luts) (foundLuts luts r)
+  luts-found (LutsRuled.kept each) = first-none luts (λ lut m. kept-rules m (each (lut .root) (member-listed m)))
+  luts-found (LutsRuled.cut {r = r} at below none) =
+      let found = listed-member luts r at in
+      subst (λ (w : ℕ). FirstBroken (Keeps net tables k outputs sheet) (flatMap lutRules luts) (foundLuts luts (luts-judged.Cut (record { id = w })))) (found .root)
+      (cut-at (found .member) (rw (found .root) below) (rw (found .root) none))
+  luts-found (LutsRuled.function {r = r} at below cut none) =
+      let found = listed-member luts r at in
+      subst (λ (w : ℕ). FirstBroken (Keeps net tables k outputs sheet) (flatMap lutRules luts) (foundLuts luts (luts-judged.Function (record { id = w })))) (found .root)
+      (function-at (found .member) (rw (found .root) below) (rw (found .root) cut) (rw (found .root) none))
+
+-- Pass four
+
+abbrev pub foundWhole : WholeJudged → Found
+foundWhole whole-judged.Kept = Found.none
+foundWhole (whole-judged.Cover g) = Found.broken (Rule.cover (g .id))
+foundWhole whole-judged.Depth = Found.broken Rule.depth
+
+-- the numbers from v on
+from-ascends : (v count : ℕ) → Ascends (λ (u : ℕ). u) v (from v count)
+unfolding from
+from-ascends v zero = Ascends.none
+from-ascends v (suc count) =
+    let rest : Ascends (λ (u : ℕ). u) (v + 1) (from (suc v) count) = rw (add-one v) (from-ascends (suc v) count) in
+    Ascends.more {least = v} {x = v} (omega arith) rest
+
+from-member : (v count g : ℕ) → List·Memᴰ g (from v count) → (v ≤ g) × (g < v + count)
+unfolding from
+from-member v zero g m = absurd (List·Memᴰ·not-nil m)
+from-member v (suc count) g m =
+    ⊎-elim (λ (e : g ≡ v). (omega arith, omega arith))
+    (λ (late : List·Memᴰ g (from (suc v) count)). let (low, high) = from-member (suc v) count g late in (omega arith, omega arith)) (List·Memᴰ·cases-cons m)
+
+member-from : (v count g : ℕ) → v ≤ g → g < v + count → List·Memᴰ g (from v count)
+unfolding from
+member-from v zero g low high = absurd (omega arith)
+member-from v (suc count) g low high = by (ℕ-discrete g v) (member-from (suc v) count g)
+  where
+    by : Dec (g ≡ v) → (suc v ≤ g → g < suc v + count → List·Memᴰ g (from (suc v) count)) → List·Memᴰ g (v ∷ from (suc v) count)
+    by (yes e) later = List·Memᴰ·head e
+    by (no apart) later = List·Memᴰ·tail (later (omega arith) (omega arith))
+
+covers-flat : (gs : List ℕ) → map Rule.cover gs ≡ flatMap (λ g. Rule.cover g ∷ []) gs
+unfolding flatMap
+covers-flat [] = refl
+covers-flat (g ∷ gs) = ap (λ (rs : List Rule). Rule.cover g ∷ rs) (covers-flat gs)
+
+-- depths rest on which nodes are inputs, and on nothing else of the net
+module _ {a b : Net} {luts : Luts} (same : a .inputs ≡ b .inputs) where
+  depth-elsewhere : {v d : ℕ} → Depth a luts v d → Depth b luts v d
+  depth-elsewhere h =
+      elim h as (λ v d _. Depth b luts v d) (λ vs d _. Depths b luts vs d) [
+        | Depth.input i ↦ Depth.input (rw same at i)
+        | Depth.root r (ds → each) ↦ Depth.root r each
+        | Depths.none ↦ Depths.none
+        | Depths.more (d → here) (rest → later) ↦ Depths.more here later
+      ]
+
+  depths-elsewhere : {vs : List ℕ} {d : ℕ} → Depths a luts vs d → Depths b luts vs d
+  depths-elsewhere Depths.none = Depths.none
+  depths-elsewhere (Depths.more d rest) = Depths.more (depth-elsewhere d) (depths-elsewhere rest)
+
+  depth-kept : {lab lab′ : ℕ → ℕ} {outputs : List ℕ} {depth : ℕ} → greatest (map lab′ outputs) ≡ greatest (map lab outputs) → DepthKept a lab outputs luts depth → DepthKept b lab′ outputs luts depth
+  depth-kept e d = record { reached = depths-elsewhere (d .reached); labelled = e ∙ d .labelled }
+
+module _ (net cuts : Net) (tables : ℕ → ℕ) (k : ℕ) (outputs : List ℕ) (sheet : Sheet) (span : net .inputs ≤ net .nodes) (inputs-same : cuts .inputs ≡ net .inputs) (nodes-same : cuts .nodes ≡ net .nodes)
+    (lab : ℕ → ℕ) (labels-same : greatest (map lab outputs) ≡ greatest (map (labelsOf (net .inputs) (sheet .lines)) outputs)) where
+  gate-member : {g : ℕ} → Gate cuts g → List·Memᴰ g (gates net)
+  gate-member {g} gate = member-from (net .inputs) (net .nodes - net .inputs) g (omega (arith, gate .above)) (omega (arith, gate .below))
+
+  member-gate : {g : ℕ} → List·Memᴰ g (gates net) → Gate cuts g
+  member-gate {g} m =
+      let (low, high) = from-member (net .inputs) (net .nodes - net .inputs) g m in
+      record { above = omega arith; below = omega arith }
+
+  covers-kept : ((g : ℕ) → Gate cuts g → CoverKept outputs (lutsOf (sheet .luts)) g) →
+      FirstBroken (Keeps net tables k outputs sheet) (map Rule.cover (gates net)) Found.none
+  unfolding Keeps
+  covers-kept each = rw (covers-flat (gates net)) (first-none (gates net) (λ g m. FirstBroken.later (each g (member-gate m)) FirstBroken.kept))
+
+  pub whole-found : {r : WholeJudged} → WholeRuled cuts outputs (lutsOf (sheet .luts)) lab (sheet .depth) r →
+      FirstBroken (Keeps net tables k outputs sheet) (map Rule.cover (gates net) ++ (Rule.depth ∷ [])) (foundWhole r)
+  unfolding Keeps
+  whole-found (WholeRuled.kept each depth) = first-after (covers-kept each) (FirstBroken.later (depth-kept inputs-same (sym labels-same) depth) FirstBroken.kept)
+  whole-found (WholeRuled.cover {g = g} gate below none) =
+      first-before {rs = map Rule.cover (gates net)} (Rule.depth ∷ [])
+      (rw (covers-flat (gates net))
+      (first-at (from-ascends (net .inputs) (net .nodes - net .inputs)) (gate-member gate)
+      (λ h m less. FirstBroken.later (below h (member-gate m) less) FirstBroken.kept)
+      (FirstBroken.here none)))
+  whole-found (WholeRuled.depth-broken each none) =
+      first-after (covers-kept each) (FirstBroken.here (λ kept. none (depth-kept (sym inputs-same) labels-same kept)))
+
+-- Leaves before their roots
+
+module _ (inputs nodes k : ℕ) (fan count order roots leaves sizes : List ℕ) (luts : List Lut) (drawing : DrawingLaid inputs nodes fan count order)
+    (laid : LutsLaid inputs nodes roots leaves sizes) (held : lutsIn inputs nodes leaves sizes roots ≡ lutsOf luts)
+    (cuts : (r : ℕ) → isListed luts r ≡ true → Cut (netIn inputs nodes fan count) k r (leavesListed luts r)) where
+  leaves-are : (v : ℕ) → netIn inputs nodes leaves sizes .fanins v ≡ leavesListed luts v
+  leaves-are v = ap (λ (l : Luts). l .leaves v) held
+
+  -- a leaf is met by the walk from its root
+  leaf-met : {r u : ℕ} → List·Memᴰ u (netIn inputs nodes leaves sizes .fanins r) → Met (netIn inputs nodes fan count) (leavesListed luts r) r u
+  leaf-met {r} {u} m = by (isListed luts r) refl
+    where
+      listed : List·Memᴰ u (leavesListed luts r)
+      listed = rw (leaves-are r) at m
+
+      by : (b : Bool) → isListed luts r ≡ b → Met (netIn inputs nodes fan count) (leavesListed luts r) r u
+      by true at = cuts r at .met u listed
+      by false none = absurd (List·Memᴰ·not-nil (rw (unlisted-leaves luts r none) at listed))
+
+  gate-there : {v : ℕ} → Gate (netIn inputs nodes fan count) v → Gate (netIn inputs nodes leaves sizes) v
+  gate-there gate = gate-of inputs nodes leaves sizes (gate-above inputs nodes fan count gate) (gate-below inputs nodes fan count gate)
+
+  gate-back : {v : ℕ} → Gate (netIn inputs nodes leaves sizes) v → Gate (netIn inputs nodes fan count) v
+  gate-back gate = gate-of inputs nodes fan count (gate-above inputs nodes leaves sizes gate) (gate-below inputs nodes leaves sizes gate)
+
+  same-size : (n : ℕ) → netIn inputs nodes fan count .inputs + n ≡ netIn inputs nodes fan count .nodes →
+      netIn inputs nodes leaves sizes .inputs + n ≡ netIn inputs nodes leaves sizes .nodes
+  unfolding netIn
+  same-size n e = e
+
+  leaf-node : {r u : ℕ} → Gate (netIn inputs nodes leaves sizes) r → List·Memᴰ u (netIn inputs nodes leaves sizes .fanins r) → u < nodes
+  unfolding netIn
+  leaf-node gate m = met-node (drawing .drawn .bounded) (gate .below) (leaf-met m)
+
+  order-of-luts : Ordered (netIn inputs nodes leaves sizes) (take (nodes - inputs) order)
+  order-of-luts =
+      record {
+        size = same-size (length (take (nodes - inputs) order)) (drawing .ordered .size);
+        gates = λ v m. gate-there (drawing .ordered .gates v m);
+        all = λ v gate. drawing .ordered .all v (gate-back gate);
+        once = drawing .ordered .once;
+        before = before;
+      }
+    where
+      before : (i u : ℕ) → i < length (take (nodes - inputs) order) →
+          List·Memᴰ u (netIn inputs nodes leaves sizes .fanins (getD (take (nodes - inputs) order) i 0)) → Gate (netIn inputs nodes leaves sizes) u →
+          (j : ℕ) × (j < i) × (getD (take (nodes - inputs) order) j 0 ≡ u)
+      before i u inside m gate =
+          let low : i < nodes - inputs = omega (arith, length-take (nodes - inputs) order) in
+          let leaf = rw (getD-take (nodes - inputs) order i 0 low) at m in
+          let (j, less, e) = met-place (nodes - inputs) order (drawing .order-long) (drawing .ordered) (drawing .drawn .bounded) i low refl (leaf-met leaf) (gate-back gate) in
+          (j, less, getD-take (nodes - inputs) order j 0 (omega arith) ∙ e)
+
+  pub luts-chosen : Chosen inputs nodes order leaves sizes
+  luts-chosen =
+      record {
+        span = drawn-span (drawing .drawn);
+        order-long = drawing .order-long;
+        leaves-long = laid .leaves-long;
+        sizes-long = laid .sizes-long;
+        six = λ g gate. laid .six g (gate-below inputs nodes leaves sizes gate);
+        leaf-nodes = λ g gate v m. leaf-node gate m;
+        ordered = order-of-luts;
+      }

@@ -1,0 +1,10 @@
+pub mod Feeding
+pub mod Runs
+pub mod True
+pub mod Lines
+pub mod Kept
+pub mod Agreeing
+pub mod Firsts
+pub mod Judging
+pub mod Passes
+pub mod One

@@ -1,0 +1,52 @@
+-- Two answers that the promise of pass two allows are equal.
+use Prim.Native.Nat.{ℕ}
+use mathlib.Core.Path.{_≡_, refl, sym, ap, _∙_}
+use mathlib.Core.List.{List, []}
+use Rattle.drawing.specs.Table.{netIn}
+use Rattle.covering.proofs.Answers.{cleared-once}
+use Rattle.sheet.specs.Sheet.{Line, Sheet}
+use Rattle.sheet.specs.Rules.{Rule, Found, FirstBroken}
+use Rattle.judging.specs.declared.Judged.{Judged}
+use Rattle.judging.specs.declared.Judged.the-variants as judged
+use Rattle.judging.specs.Gates.{foundOf, Lined, Scratch, JudgeAsked, GatesJudged}
+
+first-once : {Keep : Rule → Type 0} {rules : List Rule} {x y : Found} → FirstBroken Keep rules x → FirstBroken Keep rules y → x ≡ y
+first-once FirstBroken.kept FirstBroken.kept = refl
+first-once (FirstBroken.here none) (FirstBroken.here other) = refl
+first-once (FirstBroken.here none) (FirstBroken.later one rest) = absurd (none one)
+first-once (FirstBroken.later one rest) (FirstBroken.here none) = absurd (none one)
+first-once (FirstBroken.later one rest) (FirstBroken.later other more) = first-once rest more
+
+-- the reply that names a rule
+abbrev replyOf : Found → Judged
+replyOf Found.none = judged.Kept
+replyOf (Found.broken (Rule.cut gate leaves)) = judged.Cut (record { id = gate })
+replyOf (Found.broken (Rule.label gate)) = judged.Label (record { id = gate })
+replyOf (Found.broken (Rule.paths gate)) = judged.Paths (record { id = gate })
+replyOf (Found.broken (Rule.function lut)) = judged.Kept
+replyOf (Found.broken (Rule.cover gate)) = judged.Kept
+replyOf (Found.broken Rule.depth) = judged.Kept
+
+reply-back : (inputs : ℕ) (lines : List Line) (r : Judged) → replyOf (foundOf inputs lines r) ≡ r
+reply-back inputs lines judged.Kept = refl
+reply-back inputs lines (judged.Cut gate) = refl
+reply-back inputs lines (judged.Label gate) = refl
+reply-back inputs lines (judged.Paths gate) = refl
+
+module _ {k inputs nodes : ℕ} {fan count order : List ℕ} {l : Lined} {s : Scratch} (asked : JudgeAsked k inputs nodes fan count order l s)
+    {r q : Judged} {s′ s″ : Scratch} (a : GatesJudged k inputs nodes fan count l s r s′) (b : GatesJudged k inputs nodes fan count l s q s″) where
+  pub reply-once : r ≡ q
+  unfolding netIn
+  reply-once =
+      let sheet : Sheet = record { depth = 0; lines = asked .lines; luts = [] } in
+      let first = a .reply (asked .most) (asked .lines) (asked .holds) (λ v. 0) [] sheet refl in
+      let second = b .reply (asked .most) (asked .lines) (asked .holds) (λ v. 0) [] sheet refl in
+      sym (reply-back inputs (asked .lines) r) ∙ ap replyOf (first-once first second) ∙ reply-back inputs (asked .lines) q
+
+  pub marks-once : s′ ≡ s″
+  marks-once =
+      let walked = cleared-once nodes (s .walked) (s′ .walked) (s″ .walked) (a .cleared .walked-cleared) (b .cleared .walked-cleared) in
+      let met = cleared-once nodes (s .met) (s′ .met) (s″ .met) (a .cleared .met-cleared) (b .cleared .met-cleared) in
+      let area = cleared-once nodes (s .area) (s′ .area) (s″ .area) (a .cleared .area-cleared) (b .cleared .area-cleared) in
+      let ends = cleared-once nodes (s .ends) (s′ .ends) (s″ .ends) (a .cleared .ends-cleared) (b .cleared .ends-cleared) in
+      λ i. record { walked = walked i; met = met i; area = area i; ends = ends i }

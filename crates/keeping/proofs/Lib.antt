@@ -1,0 +1,5 @@
+pub mod Listed
+pub mod Kept
+pub mod Mappers
+pub mod Shaped
+pub mod One

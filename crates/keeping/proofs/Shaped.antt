@@ -1,0 +1,152 @@
+-- The mapper's sheet is in shape, and no longer than an acceptable sheet may be: its labels are at most a gate's rank, its roots rise, and its
+-- tables fit their rows.
+use Prim.Native.Nat.{ℕ, zero, suc, _+_, _-_, _^_, _≤_, _<_}
+use native.Mathlib.Omega.{arith}
+use native.Mathlib.Decide.{ℕ-discrete, decLe}
+use native.Mathlib.Nat.{lt-of-lt-of-le}
+use mathlib.Core.Path.{_≡_, refl, sym, ap, _∙_, subst}
+use mathlib.Core.Logic.{_⊎_, inl, inr, ⊎-elim}
+use mathlib.Core.Bool.{Bool, true, false, cond}
+use mathlib.Core.List.{List, [], _∷_, map, List·Memᴰ, List·Memᴰ·head, List·Memᴰ·tail}
+use borrow.Author.Tests.{le-ltb}
+use lib.ListN.{length, getD}
+use lib.Pow.{pow-mono}
+use Rattle.theory.specs.Net.{Net, Gate, Input}
+use Rattle.theory.specs.Sound.{Bounded, Ranked}
+use Rattle.theory.specs.Walk.{Cut}
+use Rattle.theory.specs.Lists.{greatest}
+use Rattle.theory.specs.Evidence.{peak, Owes}
+use Rattle.theory.specs.Lookup.{ConeTable}
+use Rattle.theory.proofs.Ranks.{by-rank}
+use Rattle.theory.proofs.Members.{greatest-at-most, some-member}
+use Rattle.theory.proofs.Walks.{input-or-gate}
+use Rattle.theory.proofs.FlowMap.{Labels, label-peaked, label-positive, labels-at-inputs}
+use Rattle.sheet.specs.declared.Form.{Form}
+use Rattle.sheet.specs.Sheet.{Line, Lut, Sheet, noLine, noLut}
+use Rattle.sheet.specs.Rules.{PathsKept, lineOfNode, labelsOf}
+use Rattle.sheet.specs.Longest.{Backed, Drawing, Kept}
+use Rattle.sheet.specs.Shape.{Shaped}
+use Rattle.sheet.proofs.Shapes.{dueFor, Fitting, Numbered, sheet-shaped}
+use Rattle.keeping.specs.Right.{Roots}
+use Rattle.keeping.specs.Mappers.{MappersSheet}
+use Rattle.keeping.proofs.Listed.{root-gate}
+use Rattle.keeping.proofs.Mappers.{mappers-labels, mappers-cut, lut-cut, lut-function}
+
+-- a label is at most the rank
+module _ {net : Net} {k : ℕ} {outputs : List ℕ} {lab : ℕ → ℕ} (bounded : Bounded net k) (ranked : Ranked net) (labels : Labels net k outputs lab) where
+  abbrev Low : ℕ → Type 0
+  Low v = v < net .nodes → lab v ≤ ranked .rank v
+
+  low-at-gate : (t : ℕ) → ((u : ℕ) → ranked .rank u < ranked .rank t → Low u) → Gate net t → lab t ≤ ranked .rank t
+  unfolding peak
+  low-at-gate t below gate =
+      let each : greatest (map lab (net .fanins t)) ≤ ranked .rank t - 1 =
+      greatest-at-most lab (net .fanins t) (ranked .rank t - 1) (λ u m.
+      let rises = ranked .rises u t m in
+      omega (arith, below u rises (bounded .nodes t gate u m))) in
+      let some : (u : ℕ) × List·Memᴰ u (net .fanins t) = some-member (net .fanins t) (bounded .fed t gate) in
+      let rises = ranked .rises (some .0) t (some .1) in
+      ⊎-elim (λ e. omega arith) (λ e. omega arith) (label-peaked bounded ranked labels gate)
+
+  pub label-at-most-rank : (v : ℕ) → v < net .nodes → lab v ≤ ranked .rank v
+  label-at-most-rank =
+      by-rank Low (ranked .rank)
+      (λ t below node. ⊎-elim (λ (i : Input net t). omega (arith, labels-at-inputs bounded ranked labels t i)) (low-at-gate t below) (input-or-gate t node))
+
+-- LUTs by their place in the list
+lut-member : (luts : List Lut) (i : ℕ) → i < length luts → List·Memᴰ (getD luts i noLut) luts
+lut-member [] i inside = absurd (omega arith)
+lut-member (lut ∷ luts) zero inside = List·Memᴰ·head refl
+lut-member (lut ∷ luts) (suc i) inside = List·Memᴰ·tail (lut-member luts i (omega arith))
+
+roots-few : {nodes least : ℕ} {luts : List Lut} → Roots nodes least luts → least ≤ nodes → least + length luts ≤ nodes
+roots-few Roots.none low = omega arith
+roots-few (Roots.more above below rest) low = omega (arith, roots-few rest (omega arith))
+
+first-root : {nodes least : ℕ} {luts : List Lut} → Roots nodes least luts → 1 ≤ length luts → least ≤ getD luts 0 noLut .root
+first-root Roots.none some = absurd (omega arith)
+first-root (Roots.more above below rest) some = above
+
+roots-rise : {nodes least : ℕ} {luts : List Lut} → Roots nodes least luts → (i : ℕ) → suc i < length luts →
+    getD luts i noLut .root < getD luts (suc i) noLut .root
+roots-rise Roots.none i inside = absurd (omega arith)
+roots-rise (Roots.more above below rest) zero inside = first-root rest (omega arith)
+roots-rise (Roots.more above below rest) (suc i) inside = roots-rise rest i (omega arith)
+
+-- the line of the i-th gate
+pub line-at : (inputs : ℕ) (lines : List Line) (i : ℕ) → lineOfNode inputs lines (inputs + i) ≡ getD lines i noLine
+unfolding lineOfNode
+line-at inputs lines i =
+    ap (λ (b : Bool). cond b noLine (getD lines (inputs + i - inputs) noLine)) (le-ltb (inputs + i) inputs (omega arith))
+    ∙ ap (λ (j : ℕ). getD lines j noLine) (omega arith)
+
+module _ (net : Net) (tables : ℕ → ℕ) (k : ℕ) (outputs : List ℕ) (sheet : Sheet) (drawing : Drawing net k) (ranked : Ranked net)
+    (nodes : (v : ℕ) → List·Memᴰ v outputs → v < net .nodes) (mapper : MappersSheet net tables k outputs sheet) where
+  lab : ℕ → ℕ
+  lab = labelsOf (net .inputs) (sheet .lines)
+
+  labels : Labels net k outputs lab
+  unfolding lab
+  labels = mappers-labels net tables k outputs sheet (drawing .bounded) ranked nodes mapper
+
+  gate-at : (i : ℕ) → i < length (sheet .lines) → Gate net (net .inputs + i)
+  gate-at i inside = record { above = omega arith; below = omega (arith, mapper .gates) }
+
+  backed : {t : ℕ} {paths : List (List ℕ)} → PathsKept net k lab t paths → Backed net k lab t paths
+  backed {t} {paths} kept = by (ℕ-discrete (lab t) (suc (peak net lab t))) (decLe 1 (peak net lab t))
+    where
+      none : paths ≡ [] → Backed net k lab t paths
+      none e = subst (Backed net k lab t) (sym e) Backed.bare
+
+      by : Dec (lab t ≡ suc (peak net lab t)) → Dec (1 ≤ peak net lab t) → Backed net k lab t paths
+      by (yes above) (yes some) = Backed.proven some (kept .due (record { above = above; some = some }))
+      by (no other) _ = none (kept .not-due (λ (owes : Owes net lab t). other (owes .above)))
+      by (yes above) (no less) = none (kept .not-due (λ (owes : Owes net lab t). less (owes .some)))
+
+  -- what bounds the length of a sheet
+  pub mappers-kept : Kept net k (labelsOf (net .inputs) (sheet .lines)) sheet
+  unfolding lab
+  mappers-kept =
+      record {
+        inputs = labels-at-inputs (drawing .bounded) ranked labels;
+        gates = mapper .gates;
+        cuts = λ i inside.
+            subst (λ (l : Line). Cut net k (net .inputs + i) (l .leaves)) (line-at (net .inputs) (sheet .lines) i)
+            (mappers-cut net tables k outputs sheet (drawing .bounded) ranked nodes mapper (gate-at i inside));
+        backed = λ i inside.
+            subst (λ (l : Line). Backed net k lab (net .inputs + i) (l .paths)) (line-at (net .inputs) (sheet .lines) i) (backed (mapper .evidence (net .inputs + i) (gate-at i inside)));
+        few = omega (arith, roots-few (mapper .roots) (drawing .bounded .span), mapper .gates);
+        lut-cuts = λ i inside. lut-cut net tables k outputs sheet (drawing .bounded) ranked nodes mapper (getD (sheet .luts) i noLut) (lut-member (sheet .luts) i inside);
+      }
+
+  module _ (most : ℕ) (few : k ≤ 6) (small : (v : ℕ) → v < net .nodes → ranked .rank v ≤ most) where
+    low : (v : ℕ) → v < net .nodes → lab v ≤ most
+    low v node = omega (arith, label-at-most-rank (drawing .bounded) ranked labels v node, small v node)
+
+    table-small : (lut : Lut) → List·Memᴰ lut (sheet .luts) → lut .table < 256 ^ 8
+    table-small lut m =
+        let cut = lut-cut net tables k outputs sheet (drawing .bounded) ranked nodes mapper lut m in
+        let rows : 2 ^ length (lut .leaves) ≤ 2 ^ 6 = pow-mono {i = length (lut .leaves)} {j = 6} (omega (arith, cut .few)) in
+        lt-of-lt-of-le (lut-function net tables k outputs sheet (drawing .bounded) ranked nodes mapper lut m .rows)
+        (pow-mono {i = 2 ^ length (lut .leaves)} {j = 64} rows)
+
+    numbered : Numbered net most sheet
+    unfolding lab
+    numbered =
+        record {
+          depth = omega (arith, mapper .depth, greatest-at-most lab outputs most (λ v m. low v (nodes v m)));
+          least = λ i inside.
+              let positive : 1 ≤ labelsOf (net .inputs) (sheet .lines) (net .inputs + i) = label-positive (drawing .bounded) ranked labels (gate-at i inside) in
+              subst (λ (l : Line). 1 ≤ l .label) (line-at (net .inputs) (sheet .lines) i) positive;
+          greatest = λ i inside.
+              let high : labelsOf (net .inputs) (sheet .lines) (net .inputs + i) ≤ most = low (net .inputs + i) (gate-at i inside .below) in
+              subst (λ (l : Line). l .label ≤ most) (line-at (net .inputs) (sheet .lines) i) high;
+          roots = λ i inside.
+              let (above, below) = root-gate (mapper .roots) (getD (sheet .luts) i noLut) (lut-member (sheet .luts) i inside) in
+              record { above = above; below = below };
+          rise = roots-rise (mapper .roots);
+          tables = λ i inside. table-small (getD (sheet .luts) i noLut) (lut-member (sheet .luts) i inside);
+        }
+
+    pub mappers-sheet-shaped : {form : Form} → Fitting form most k (net .nodes) → Shaped (dueFor form most k net) sheet
+    mappers-sheet-shaped fitting = sheet-shaped drawing fitting mappers-kept numbered

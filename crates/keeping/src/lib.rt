@@ -1,0 +1,1 @@
+// What follows for a sheet that keeps the rules: definitions in specs/, theorems in proofs/. No code.

@@ -1,0 +1,50 @@
+-- `line_ruling` meets its contract: the frame's ruling, and where that is sound the value's.
+use mathlib.Core.Path.{sym, _∙_}
+use denote.Ref.{now}
+use Rattle.sheet.specs.Shape.{lineRuling, lineLengthWrong, lineRange, lineAt}
+use Rattle.shaping.specs.Terms.{dueOf}
+use Rattle.shaping.proofs.Rulings.{frame-fits, frame-faulty, frame-sound}
+use mathlib.Core.Bool.{false}
+use native.Mathlib.Omega.{arith}
+use borrow.Author.Needs.{needs}
+use Rattle.shaping.proofs.fields.line_ruling.Statement.{statement}
+use Rattle.shaping.proofs.fields.line_ruling.Tie as tie
+use Rattle.shaping.proofs.fields.line_ruling.Reads as reads
+use Rattle.shaping.proofs.fields.line_ruling.Lts as lts
+use Rattle.shaping.proofs.fields.frame.Reads as frame-reads
+use Rattle.shaping.proofs.fields.line_value.Reads as line-value-reads
+
+frame-requires : tie.Need-frame-requires
+frame-requires c κs = omega arith
+
+enum-known-framed : tie.Need-enum-known-framed
+enum-known-framed c = omega arith
+
+enum-told : tie.Need-enum-told
+enum-told c = omega arith
+
+line-value-requires : tie.Need-line-value-requires
+line-value-requires c κs =
+    let s = now (c .before .before .before .before .args .sheet) in
+    (c .before .before .before .before .pre .0, frame-fits s (c .before .before .before .before .args .at) (c .before .before .before .before .args .terms .form .line) false false (c .before .before .frame .ensures) (c .enum-told .given .1))
+
+returns : tie.Need-returns
+unfolding lineRuling
+returns c =
+    let s = now (c .before .before .before .before .before .args .sheet) in
+    let due = dueOf (c .before .before .before .before .before .args .terms) in
+    let at = c .before .before .before .before .before .args .at in
+    frame-faulty s at (due .form .line) (lineLengthWrong due s at) (lineRange due (lineAt due s at)) (c .before .before .before .frame .ensures) (c .before .framed .given .1)
+
+returns-2 : tie.Need-returns-2
+unfolding lineRuling
+returns-2 c =
+    let s = now (c .before .before .before .before .before .args .sheet) in
+    let due = dueOf (c .before .before .before .before .before .args .terms) in
+    let at = c .before .before .before .before .before .args .at in
+    frame-sound s at (due .form .line) (lineLengthWrong due s at) (lineRange due (lineAt due s at)) (c .before .before .before .frame .ensures) (c .before .enum-told .given .1) (c .line-value .ensures)
+
+pub line-ruling-spec : {M : Type 1} → statement M
+line-ruling-spec =
+    tie.close
+    (tie.spec frame-requires enum-known-framed enum-told line-value-requires returns returns-2)

@@ -1,0 +1,104 @@
+-- `line_uses` meets its contract: label, leaves and paths, each within what is left of the value.
+use Prim.Native.Nat.{_+_, _*_}
+use denote.Ref.{now}
+use Rattle.shaping.specs.Terms.{dueOf}
+use Rattle.shaping.proofs.Ids.{twice, narrow-one}
+use Rattle.shaping.proofs.Values.{line-torn, line-short, line-used}
+use native.Mathlib.Omega.{arith}
+use borrow.Author.Needs.{needs}
+use Rattle.shaping.proofs.fields.line_uses.Statement.{statement}
+use Rattle.shaping.proofs.fields.line_uses.Tie as tie
+use Rattle.shaping.proofs.fields.line_uses.Reads as reads
+use Rattle.shaping.proofs.fields.line_uses.Lts as lts
+use Rattle.drawing.proofs.bytes.length_at.Reads as length-at-reads
+use Rattle.shaping.proofs.numbers.small_at.Reads as small-at-reads
+use Rattle.shaping.proofs.paths.paths_use.Reads as paths-use-reads
+
+length-at-requires : tie.Need-length-at-requires
+length-at-requires c κs = omega arith
+
+add-if1 : tie.Need-add-if1
+add-if1 c = omega arith
+
+returns : tie.Need-returns
+returns c = line-torn (dueOf (c .before .before .before .args .terms)) (now (c .before .before .before .args .sheet)) (c .before .before .before .args .at) (omega arith)
+
+add-before : tie.Need-add-before
+add-before c = omega arith
+
+add-small-at : tie.Need-add-small-at
+add-small-at c = omega arith
+
+add-small-at-2 : tie.Need-add-small-at-2
+add-small-at-2 c = omega arith
+
+small-at-requires : tie.Need-small-at-requires
+small-at-requires c κs = (narrow-one, omega arith)
+
+mul-before : tie.Need-mul-before
+mul-before c = omega (arith, twice (c .small-at .result) (c .before .before .before .before .pre .0), c .small-at .ensures .fits)
+
+add-before-2 : tie.Need-add-before-2
+add-before-2 c = omega (arith, twice (c .small-at .result) (c .before .before .before .before .pre .0), c .small-at .ensures .fits)
+
+add-if2 : tie.Need-add-if2
+add-if2 c = omega (arith, twice (c .small-at .result) (c .before .before .before .before .pre .0), c .small-at .ensures .fits)
+
+returns-2 : tie.Need-returns-2
+returns-2 c = line-short (dueOf (c .before .before .before .before .before .args .terms)) (now (c .before .before .before .before .before .args .sheet)) (c .before .before .before .before .before .args .at) (omega arith) (c .before .small-at .ensures) (omega arith)
+
+add-small-at-3 : tie.Need-add-small-at-3
+add-small-at-3 c = omega arith
+
+add-small-at-4 : tie.Need-add-small-at-4
+add-small-at-4 c = omega arith
+
+small-at-requires-2 : tie.Need-small-at-requires-2
+small-at-requires-2 c κs = (narrow-one, omega arith)
+
+add-paths-use : tie.Need-add-paths-use
+add-paths-use c = omega arith
+
+add-paths-use-2 : tie.Need-add-paths-use-2
+add-paths-use-2 c = omega arith
+
+add-paths-use-3 : tie.Need-add-paths-use-3
+add-paths-use-3 c = omega arith
+
+add-paths-use-4 : tie.Need-add-paths-use-4
+add-paths-use-4 c = omega arith
+
+add-paths-use-5 : tie.Need-add-paths-use-5
+add-paths-use-5 c = omega arith
+
+paths-use-requires : tie.Need-paths-use-requires
+paths-use-requires c κs = (c .before .before .before .before .before .before .pre .0, (omega arith, omega arith))
+
+returns-3 : tie.Need-returns-3
+returns-3 c = line-used (dueOf (c .before .before .before .before .before .before .before .args .terms)) (now (c .before .before .before .before .before .before .before .args .sheet)) (c .before .before .before .before .before .before .before .args .at) (omega arith) (c .before .before .before .small-at .ensures) (omega arith) (c .before .small-at2 .ensures) (c .before .before .before .before .before .length-at .ensures) (c .paths-use .ensures)
+
+pub line-uses-spec : {M : Type 1} → statement M
+line-uses-spec =
+    tie.close
+    (tie.spec
+    length-at-requires
+    add-if1
+    returns
+    add-before
+    add-small-at
+    add-small-at-2
+    small-at-requires
+    mul-before
+    add-before-2
+    add-if2
+    returns-2
+    add-small-at-3
+    add-small-at-4
+    small-at-requires-2
+    add-paths-use
+    add-paths-use-2
+    add-paths-use-3
+    add-paths-use-4
+    add-paths-use-5
+    paths-use-requires
+    returns-3)

@@ -1,0 +1,49 @@
+-- `lut_in_range` meets its contract: the range rules of a LUT, one after the other.
+use denote.Ref.{now}
+use Rattle.shaping.specs.Terms.{dueOf}
+use Rattle.shaping.proofs.Values.{lut-parts, lut-low, lut-high, lut-told}
+use native.Mathlib.Omega.{arith}
+use borrow.Author.Needs.{needs}
+use Rattle.shaping.proofs.fields.lut_in_range.Statement.{statement}
+use Rattle.shaping.proofs.fields.lut_in_range.Tie as tie
+use Rattle.shaping.proofs.fields.lut_in_range.Reads as reads
+use Rattle.shaping.proofs.fields.lut_in_range.Lts as lts
+use Rattle.shaping.proofs.numbers.leaves_in_range.Reads as leaves-in-range-reads
+use Rattle.shaping.proofs.numbers.small_at.Reads as small-at-reads
+
+add-small-at : tie.Need-add-small-at
+add-small-at c = search needs
+
+small-at-requires : tie.Need-small-at-requires
+small-at-requires c κs = (c .before .pre .0, omega (arith, lut-parts (dueOf (c .before .args .terms)) (now (c .before .args .sheet)) (c .before .args .at) (c .before .pre .1 .1)))
+
+returns : tie.Need-returns
+returns c = lut-low (dueOf (c .before .before .before .args .terms)) (now (c .before .before .before .args .sheet)) (c .before .before .before .args .at) (c .before .small-at .ensures) (c .before .before .before .args .least) (omega arith)
+
+returns-2 : tie.Need-returns-2
+returns-2 c = lut-high (dueOf (c .before .before .before .before .before .args .terms)) (now (c .before .before .before .before .before .args .sheet)) (c .before .before .before .before .before .args .at) (c .before .before .before .small-at .ensures) (c .before .before .before .before .before .args .least) (omega arith) (omega arith)
+
+add-leaves-in-range : tie.Need-add-leaves-in-range
+add-leaves-in-range c = search needs
+
+add-leaves-in-range-2 : tie.Need-add-leaves-in-range-2
+add-leaves-in-range-2 c = search needs
+
+leaves-in-range-requires : tie.Need-leaves-in-range-requires
+leaves-in-range-requires c κs = (c .before .before .before .before .before .pre .0, omega (arith, lut-parts (dueOf (c .before .before .before .before .before .args .terms)) (now (c .before .before .before .before .before .args .sheet)) (c .before .before .before .before .before .args .at) (c .before .before .before .before .before .pre .1 .1)))
+
+returns-3 : tie.Need-returns-3
+returns-3 c = lut-told (dueOf (c .before .before .before .before .before .before .args .terms)) (now (c .before .before .before .before .before .before .args .sheet)) (c .before .before .before .before .before .before .args .at) (c .before .before .before .before .small-at .ensures) (c .before .before .before .before .before .before .args .least) (omega arith) (omega arith) (c .leaves-in-range .ensures)
+
+pub lut-in-range-spec : {M : Type 1} → statement M
+lut-in-range-spec =
+    tie.close
+    (tie.spec
+    add-small-at
+    small-at-requires
+    returns
+    returns-2
+    add-leaves-in-range
+    add-leaves-in-range-2
+    leaves-in-range-requires
+    returns-3)

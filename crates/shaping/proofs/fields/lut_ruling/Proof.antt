@@ -1,0 +1,50 @@
+-- `lut_ruling` meets its contract: the frame's ruling, and where that is sound the value's.
+use mathlib.Core.Path.{sym, _∙_}
+use denote.Ref.{now}
+use Rattle.sheet.specs.Shape.{lutRuling, lutLengthWrong, lutRange, lutAt}
+use Rattle.shaping.specs.Terms.{dueOf}
+use Rattle.shaping.proofs.Rulings.{frame-fits, frame-faulty, frame-sound}
+use mathlib.Core.Bool.{false}
+use native.Mathlib.Omega.{arith}
+use borrow.Author.Needs.{needs}
+use Rattle.shaping.proofs.fields.lut_ruling.Statement.{statement}
+use Rattle.shaping.proofs.fields.lut_ruling.Tie as tie
+use Rattle.shaping.proofs.fields.lut_ruling.Reads as reads
+use Rattle.shaping.proofs.fields.lut_ruling.Lts as lts
+use Rattle.shaping.proofs.fields.frame.Reads as frame-reads
+use Rattle.shaping.proofs.fields.lut_value.Reads as lut-value-reads
+
+frame-requires : tie.Need-frame-requires
+frame-requires c κs = search needs
+
+enum-known-framed : tie.Need-enum-known-framed
+enum-known-framed c = search needs
+
+enum-told : tie.Need-enum-told
+enum-told c = search needs
+
+lut-value-requires : tie.Need-lut-value-requires
+lut-value-requires c κs =
+    let s = now (c .before .before .before .before .args .sheet) in
+    (c .before .before .before .before .pre .0, frame-fits s (c .before .before .before .before .args .at) (c .before .before .before .before .args .terms .form .lut) false false (c .before .before .frame .ensures) (c .enum-told .given .1))
+
+returns : tie.Need-returns
+unfolding lutRuling
+returns c =
+    let s = now (c .before .before .before .before .before .args .sheet) in
+    let due = dueOf (c .before .before .before .before .before .args .terms) in
+    let at = c .before .before .before .before .before .args .at in
+    frame-faulty s at (due .form .lut) (lutLengthWrong due s at) (lutRange due (c .before .before .before .before .before .args .least) (lutAt due s at)) (c .before .before .before .frame .ensures) (c .before .framed .given .1)
+
+returns-2 : tie.Need-returns-2
+unfolding lutRuling
+returns-2 c =
+    let s = now (c .before .before .before .before .before .args .sheet) in
+    let due = dueOf (c .before .before .before .before .before .args .terms) in
+    let at = c .before .before .before .before .before .args .at in
+    frame-sound s at (due .form .lut) (lutLengthWrong due s at) (lutRange due (c .before .before .before .before .before .args .least) (lutAt due s at)) (c .before .before .before .frame .ensures) (c .before .enum-told .given .1) (c .lut-value .ensures)
+
+pub lut-ruling-spec : {M : Type 1} → statement M
+lut-ruling-spec =
+    tie.close
+    (tie.spec frame-requires enum-known-framed enum-told lut-value-requires returns returns-2)

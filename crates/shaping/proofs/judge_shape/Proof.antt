@@ -1,0 +1,46 @@
+-- `judge_shape` meets its contract: the head's ruling, then what follows the head.
+use mathlib.Core.Path.{sym, _∙_}
+use denote.Ref.{now}
+use Rattle.shaping.specs.Terms.{dueFrom}
+use Rattle.shaping.proofs.FieldRuns.{head-faulty, head-then}
+use native.Mathlib.Omega.{arith}
+use borrow.Author.Needs.{needs}
+use Rattle.shaping.proofs.judge_shape.Statement.{statement}
+use Rattle.shaping.proofs.judge_shape.Tie as tie
+use Rattle.shaping.proofs.judge_shape.Reads as reads
+use Rattle.shaping.proofs.judge_shape.Lts as lts
+use Rattle.shaping.proofs.fields.head_ruling.Reads as head-ruling-reads
+use Rattle.shaping.proofs.judge_from_lines.Reads as judge-from-lines-reads
+
+head-ruling-requires : tie.Need-head-ruling-requires
+head-ruling-requires c κs = search needs
+
+enum-known-head : tie.Need-enum-known-head
+enum-known-head c = search needs
+
+enum-told : tie.Need-enum-told
+enum-told c = search needs
+
+judge-from-lines-requires : tie.Need-judge-from-lines-requires
+judge-from-lines-requires c κs = (c .before .before .before .before .pre .0, (c .before .before .before .before .pre .1, sym (c .before .before .head-ruling .ensures) ∙ c .enum-told .given .1))
+
+returns : tie.Need-returns
+returns c =
+    let a = c .before .before .before .before .before .args in
+    head-faulty (dueFrom (a .form) (a .most) (a .k .leaves) (a .inputs) (a .nodes)) (now (a .sheet)) (c .before .before .before .head-ruling .ensures) (c .before .head .given .1)
+
+returns-2 : tie.Need-returns-2
+returns-2 c =
+    let a = c .before .before .before .before .before .args in
+    head-then (dueFrom (a .form) (a .most) (a .k .leaves) (a .inputs) (a .nodes)) (now (a .sheet)) (c .before .before .before .head-ruling .ensures) (c .before .enum-told .given .1) (c .judge-from-lines .ensures)
+
+pub judge-shape-spec : {M : Type 1} → statement M
+judge-shape-spec =
+    tie.close
+    (tie.spec
+    head-ruling-requires
+    enum-known-head
+    enum-told
+    judge-from-lines-requires
+    returns
+    returns-2)

@@ -1,0 +1,113 @@
+-- `lut_turn` meets its contract: the node is the next root, or no root.
+use Prim.Native.Nat.{_+_}
+use mathlib.Core.Path.{_≡_}
+use denote.Ref.{now}
+use Rattle.shaping.specs.Terms.{dueOf}
+use Rattle.shaping.proofs.Filling.{put-as}
+use Rattle.shaping.proofs.FieldRuns.{lut-end, lut-whole}
+use Rattle.shaping.proofs.Found.{next-inside, none-here, left-past, some-left, ruled-here, lut-here, left-behind}
+use native.Mathlib.Omega.{arith}
+use borrow.Author.Needs.{needs}
+use Rattle.shaping.proofs.loading.lut_turn.Statement.{statement}
+use Rattle.shaping.proofs.loading.lut_turn.Tie as tie
+use Rattle.shaping.proofs.loading.lut_turn.Reads as reads
+use Rattle.shaping.proofs.loading.lut_turn.Lts as lts
+use Rattle.shaping.proofs.reader.passed.Reads as passed-reads
+use Rattle.shaping.proofs.loading.next_root.Reads as next-root-reads
+use Rattle.shaping.proofs.storing.put_lut.Reads as put-lut-reads
+use Rattle.shaping.proofs.storing.put_no_lut.Reads as put-no-lut-reads
+
+next-root-requires : tie.Need-next-root-requires
+next-root-requires c κs = record { narrow = c .before .before .before .before .before .pre .0 .narrow; inside = next-inside (dueOf (c .before .before .before .before .before .args .terms)) (now (c .before .before .before .before .before .args .sheet)) (c .before .before .before .before .before .pre .0 .left) }
+
+cast-if1 : tie.Need-cast-if1
+cast-if1 c = search needs
+
+put-no-lut-requires : tie.Need-put-no-lut-requires
+put-no-lut-requires c κs = search needs
+
+same-length : tie.Need-same-length
+same-length c = search needs
+
+same-length-2 : tie.Need-same-length-2
+same-length-2 c = search needs
+
+same-length-3 : tie.Need-same-length-3
+same-length-3 c = search needs
+
+same-length-4 : tie.Need-same-length-4
+same-length-4 c = search needs
+
+returns : tie.Need-returns
+returns c =
+    let due = dueOf (c .before .before .before .before .before .before .before .before .before .before .before .before .before .before .before .before .before .before .before .before .before .args .terms) in
+    let s = now (c .before .before .before .before .before .before .before .before .before .before .before .before .before .before .before .before .before .before .before .before .before .args .sheet) in
+    let l = c .before .before .before .before .before .before .before .before .before .before .before .before .before .before .before .before .before .before .before .before .before .pre .0 .left in
+    record {
+      put = put-as (none-here due s l (c .before .before .before .before .before .before .before .before .before .before .before .before .before .before .before .next-root .ensures) (c .before .before .before .before .before .before .before .before .before .before .before .before .before .if1 .taken)) (c .before .before .before .before .before .before .before .before .put-no-lut .ensures);
+      left = left-past due s l (c .before .before .before .before .before .before .before .before .before .before .before .before .before .before .before .next-root .ensures) (c .before .before .before .before .before .before .before .before .before .before .before .before .before .if1 .taken);
+    }
+
+put-lut-requires : tie.Need-put-lut-requires
+put-lut-requires c κs =
+    let due = dueOf (c .before .before .before .before .before .before .before .before .before .before .before .before .args .terms) in
+    let s = now (c .before .before .before .before .before .before .before .before .before .before .before .before .args .sheet) in
+    let l = c .before .before .before .before .before .before .before .before .before .before .before .before .pre .0 .left in
+    (record { narrow = c .before .before .before .before .before .before .before .before .before .before .before .before .pre .0 .narrow; whole = lut-whole due s (l .least) (c .before .before .before .before .before .before .before .before .before .before .before .before .args .turn .at) (ruled-here due s l (c .before .before .before .before .before .before .next-root .ensures) (omega arith) (c .before .before .before .before .before .before .before .before .before .before .before .before .pre .0 .node)) }, c .before .before .before .before .before .before .before .before .before .before .before .before .pre .1)
+
+passed-requires : tie.Need-passed-requires
+passed-requires c κs =
+    let due = dueOf (c .before .before .before .before .before .before .before .before .before .before .before .before .before .before .before .before .before .before .before .before .before .args .terms) in
+    let s = now (c .before .before .before .before .before .before .before .before .before .before .before .before .before .before .before .before .before .before .before .before .before .args .sheet) in
+    let l = c .before .before .before .before .before .before .before .before .before .before .before .before .before .before .before .before .before .before .before .before .before .pre .0 .left in
+    lut-end due s (l .least) (c .before .before .before .before .before .before .before .before .before .before .before .before .before .before .before .before .before .before .before .before .before .args .turn .at) (ruled-here due s l (c .before .before .before .before .before .before .before .before .before .before .before .before .before .before .before .next-root .ensures) (omega arith) (c .before .before .before .before .before .before .before .before .before .before .before .before .before .before .before .before .before .before .before .before .before .pre .0 .node))
+
+sub-t11 : tie.Need-sub-t11
+sub-t11 c =
+    let due = dueOf (c .before .before .before .before .before .before .before .before .before .before .before .before .before .before .before .before .before .before .before .before .before .before .before .args .terms) in
+    let s = now (c .before .before .before .before .before .before .before .before .before .before .before .before .before .before .before .before .before .before .before .before .before .before .before .args .sheet) in
+    let l = c .before .before .before .before .before .before .before .before .before .before .before .before .before .before .before .before .before .before .before .before .before .before .before .pre .0 .left in
+    omega (arith, some-left due s l (c .before .before .before .before .before .before .before .before .before .before .before .before .before .before .before .before .before .next-root .ensures) (omega arith) (c .before .before .before .before .before .before .before .before .before .before .before .before .before .before .before .before .before .before .before .before .before .before .before .pre .0 .node))
+
+same-length-5 : tie.Need-same-length-5
+same-length-5 c = search needs
+
+same-length-6 : tie.Need-same-length-6
+same-length-6 c = search needs
+
+same-length-7 : tie.Need-same-length-7
+same-length-7 c = search needs
+
+same-length-8 : tie.Need-same-length-8
+same-length-8 c = search needs
+
+returns-2 : tie.Need-returns-2
+returns-2 c =
+    let due = dueOf (c .before .before .before .before .before .before .before .before .before .before .before .before .before .before .before .before .before .before .before .before .before .before .before .args .terms) in
+    let s = now (c .before .before .before .before .before .before .before .before .before .before .before .before .before .before .before .before .before .before .before .before .before .before .before .args .sheet) in
+    let l = c .before .before .before .before .before .before .before .before .before .before .before .before .before .before .before .before .before .before .before .before .before .before .before .pre .0 .left in
+    record {
+      put = put-as (lut-here due s l (c .before .before .before .before .before .before .before .before .before .before .before .before .before .before .before .before .before .next-root .ensures) (omega arith) (c .before .before .before .before .before .before .before .before .before .before .before .before .before .before .before .before .before .before .before .before .before .before .before .pre .0 .node)) (c .before .before .before .before .before .before .before .before .before .before .put-lut .ensures);
+      left = left-behind due s l (c .before .before .before .before .before .before .before .before .before .before .before .before .before .before .before .before .before .next-root .ensures) (omega arith) (c .before .before .before .before .before .before .before .before .before .before .before .before .before .before .before .before .before .before .before .before .before .before .before .pre .0 .node) (c .before .passed .ensures);
+    }
+
+pub lut-turn-spec : {M : Type 1} → statement M
+lut-turn-spec =
+    tie.close
+    (tie.spec
+    next-root-requires
+    cast-if1
+    put-no-lut-requires
+    same-length
+    same-length-2
+    same-length-3
+    same-length-4
+    returns
+    put-lut-requires
+    passed-requires
+    sub-t11
+    same-length-5
+    same-length-6
+    same-length-7
+    same-length-8
+    returns-2)

@@ -1,0 +1,25 @@
+-- `next_root` meets its contract.
+use mathlib.Core.Path.{sym, _∙_}
+use borrow.Author.Tests.{eq-eqb, ne-eqb}
+use native.Mathlib.Omega.{arith}
+use borrow.Author.Needs.{needs}
+use Rattle.shaping.proofs.loading.next_root.Statement.{statement}
+use Rattle.shaping.proofs.loading.next_root.Tie as tie
+use Rattle.shaping.proofs.loading.next_root.Reads as reads
+use Rattle.shaping.proofs.loading.next_root.Lts as lts
+use Rattle.shaping.proofs.numbers.small_at.Reads as small-at-reads
+
+returns : tie.Need-returns
+returns c = simp (eq-eqb (c .before .before .before .args .turn .left) 0 (omega arith))
+
+add-small-at : tie.Need-add-small-at
+add-small-at c = omega (arith, c .before .before .before .pre .inside (omega arith))
+
+small-at-requires : tie.Need-small-at-requires
+small-at-requires c κs = (c .before .before .before .pre .narrow, c .before .before .before .pre .inside (omega arith))
+
+returns-2 : tie.Need-returns-2
+returns-2 c = rw (ne-eqb (c .before .before .before .before .args .turn .left) 0 (omega arith)) (c .small-at .ensures .number)
+
+pub next-root-spec : {M : Type 1} → statement M
+next-root-spec = tie.close (tie.spec returns add-small-at small-at-requires returns-2)

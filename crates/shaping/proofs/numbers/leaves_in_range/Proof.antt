@@ -1,0 +1,61 @@
+-- `leaves_in_range` meets its contract: the range rules of leaves, one after the other.
+use mathlib.Core.Path.{ap}
+use Prim.Native.Nat.{ℕ, _*_}
+use denote.Ref.{now}
+use borrow.Author.Tests.{not-true, not-false}
+use Rattle.shaping.specs.Terms.{dueOf}
+use Rattle.shaping.proofs.Ids.{leaves-few, leaves-many, leaves-fall, leaves-told}
+use native.Mathlib.Omega.{arith}
+use borrow.Author.Needs.{needs}
+use Rattle.shaping.proofs.numbers.leaves_in_range.Statement.{statement}
+use Rattle.shaping.proofs.numbers.leaves_in_range.Tie as tie
+use Rattle.shaping.proofs.numbers.leaves_in_range.Reads as reads
+use Rattle.shaping.proofs.numbers.leaves_in_range.Lts as lts
+use Rattle.shaping.proofs.numbers.ids_below.Reads as ids-below-reads
+use Rattle.shaping.proofs.numbers.ids_rise.Reads as ids-rise-reads
+use Rattle.shaping.proofs.numbers.small_at.Reads as small-at-reads
+
+small-at-requires : tie.Need-small-at-requires
+small-at-requires c κs = search needs
+
+returns : tie.Need-returns
+returns c = leaves-few (dueOf (c .before .before .before .args .terms)) (now (c .before .before .before .args .sheet)) (c .before .before .before .args .at) (c .before .small-at .ensures) (omega arith)
+
+cast-if2 : tie.Need-cast-if2
+cast-if2 c = search needs
+
+returns-2 : tie.Need-returns-2
+returns-2 c = leaves-many (dueOf (c .before .before .before .before .before .args .terms)) (now (c .before .before .before .before .before .args .sheet)) (c .before .before .before .before .before .args .at) (c .before .before .before .small-at .ensures) (omega arith) (omega arith)
+
+add-ids-rise : tie.Need-add-ids-rise
+add-ids-rise c = search needs
+
+ids-rise-requires : tie.Need-ids-rise-requires
+ids-rise-requires c κs = (c .before .before .before .before .before .pre .0, (omega arith, omega (arith, ap (λ (n : ℕ). n * c .before .before .before .before .before .args .terms .form .width) (c .before .before .before .small-at .ensures .number))))
+
+returns-3 : tie.Need-returns-3
+returns-3 c = leaves-fall (dueOf (c .before .before .before .before .before .before .before .args .terms)) (now (c .before .before .before .before .before .before .before .args .sheet)) (c .before .before .before .before .before .before .before .args .at) (c .before .before .before .before .before .small-at .ensures) (omega arith) (omega arith) (c .before .ids-rise .ensures) (not-true (c .before .ids-rise .result) (c .if3 .taken))
+
+add-ids-below : tie.Need-add-ids-below
+add-ids-below c = search needs
+
+ids-below-requires : tie.Need-ids-below-requires
+ids-below-requires c κs = (c .before .before .before .before .before .before .before .pre .0, omega (arith, ap (λ (n : ℕ). n * c .before .before .before .before .before .before .before .args .terms .form .width) (c .before .before .before .before .before .small-at .ensures .number)))
+
+returns-4 : tie.Need-returns-4
+returns-4 c = leaves-told (dueOf (c .before .before .before .before .before .before .before .before .args .terms)) (now (c .before .before .before .before .before .before .before .before .args .sheet)) (c .before .before .before .before .before .before .before .before .args .at) (c .before .before .before .before .before .before .small-at .ensures) (omega arith) (omega arith) (c .before .before .ids-rise .ensures) (not-false (c .before .before .ids-rise .result) (c .before .if3 .left)) (c .ids-below .ensures)
+
+pub leaves-in-range-spec : {M : Type 1} → statement M
+leaves-in-range-spec =
+    tie.close
+    (tie.spec
+    small-at-requires
+    returns
+    cast-if2
+    returns-2
+    add-ids-rise
+    ids-rise-requires
+    returns-3
+    add-ids-below
+    ids-below-requires
+    returns-4)

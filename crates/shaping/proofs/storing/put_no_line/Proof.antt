@@ -1,0 +1,63 @@
+-- `put_no_line` meets its contract.
+use denote.Ref.{now}
+use Rattle.shaping.proofs.Filling.{no-line-put}
+use native.Mathlib.Omega.{arith}
+use borrow.Author.Needs.{needs}
+use Rattle.shaping.proofs.storing.put_no_line.Statement.{statement}
+use Rattle.shaping.proofs.storing.put_no_line.Tie as tie
+use Rattle.shaping.proofs.storing.put_no_line.Reads as reads
+use Rattle.shaping.proofs.storing.put_no_line.Lts as lts
+use Rattle.shaping.proofs.storing.put_leaves.Reads as put-leaves-reads
+
+cast-v : tie.Need-cast-v
+cast-v c = search needs
+
+mul-labels : tie.Need-mul-labels
+mul-labels c = search needs
+
+slice-write-labels : tie.Need-slice-write-labels
+slice-write-labels c = search needs
+
+slice-write-sizes : tie.Need-slice-write-sizes
+slice-write-sizes c = search needs
+
+mul-places : tie.Need-mul-places
+mul-places c = search needs
+
+slice-write-places : tie.Need-slice-write-places
+slice-write-places c = search needs
+
+put-leaves-requires : tie.Need-put-leaves-requires
+put-leaves-requires c κs = search needs
+
+same-length : tie.Need-same-length
+same-length c = search needs
+
+same-length-2 : tie.Need-same-length-2
+same-length-2 c = search needs
+
+same-length-3 : tie.Need-same-length-3
+same-length-3 c = search needs
+
+same-length-4 : tie.Need-same-length-4
+same-length-4 c = search needs
+
+returns : tie.Need-returns
+returns c = no-line-put (now (c .before .before .before .before .before .before .before .before .before .before .args .sheet)) (c .before .before .before .before .before .before .before .before .before .before .args .node .id) (c .before .before .put-leaves .ensures)
+
+pub put-no-line-spec : {M : Type 1} → statement M
+put-no-line-spec =
+    tie.close
+    (tie.spec
+    cast-v
+    mul-labels
+    slice-write-labels
+    slice-write-sizes
+    mul-places
+    slice-write-places
+    put-leaves-requires
+    same-length
+    same-length-2
+    same-length-3
+    same-length-4
+    returns)

@@ -1,0 +1,7 @@
+pub mod Terms
+pub mod Numbers
+pub mod Fields
+pub mod Runs
+pub mod Judging
+pub mod Loading
+pub mod Turns

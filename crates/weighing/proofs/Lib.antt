@@ -1,0 +1,5 @@
+pub mod Scratch
+pub mod Rulings
+pub mod Wanted
+pub mod Deep
+pub mod Answers
