@@ -1,1 +1,4 @@
 pub mod Small
+pub mod Drawings
+pub mod Fits
+pub mod Unique

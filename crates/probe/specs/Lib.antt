@@ -1,1 +1,3 @@
 pub mod Words
+pub mod Drawings
+pub mod Arrays

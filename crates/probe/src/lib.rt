@@ -1,4 +1,8 @@
 // What the tests outside Rattle call: inner functions of the library, with their replies as words.
+pub mod arrays;
+mod drawn;
+mod rooms;
+
 use drawing::Head;
 use drawing::Reading;
 use drawing::Refusal;

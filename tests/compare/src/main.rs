@@ -3,11 +3,14 @@
 //! Usage: `compare quick|long [SEED]`. It ends with status 1 at the first difference.
 
 mod arrays;
+mod drawing;
 mod drawn;
+mod labelling;
 mod probe;
 mod random;
 mod reading;
 mod taking;
+mod walking;
 
 use std::env;
 use std::process::ExitCode;
@@ -32,7 +35,12 @@ impl Size {
 /// Compares one subject, from a seed, and says what differs.
 type Subject = fn(Size, u64) -> Result<(), String>;
 
-const SUBJECTS: [(&str, Subject); 2] = [("reading", reading::compare), ("taking", taking::compare)];
+const SUBJECTS: [(&str, Subject); 4] = [
+    ("reading", reading::compare),
+    ("taking", taking::compare),
+    ("walking", walking::compare),
+    ("labelling", labelling::compare),
+];
 
 const USUAL_SEED: u64 = 20_231_117;
 

@@ -93,7 +93,7 @@ fn chain(backwards: bool, closed: bool) -> Table {
 }
 
 /// Drawings with the gate that they are refused for, by hand; 0 where they are taken.
-fn known() -> Vec<(Table, u64)> {
+pub fn known() -> Vec<(Table, u64)> {
     vec![
         (small(&[&[0, 1]]), 1),                // P8
         (small(&[&[3], &[3], &[2]]), 2),       // P9: gate 1 is only downstream

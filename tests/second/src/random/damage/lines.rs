@@ -5,6 +5,9 @@ use crate::graph::Graph;
 use crate::random::Random;
 use crate::sheet::Sheet;
 
+/// The most ids that a path's length byte can tell.
+const PATH_LIMIT: usize = 255;
+
 /// The lines may be alike.
 pub fn swapped(sheet: &Sheet, random: &mut Random) -> Option<Damaged> {
     let (lower, higher) = two_below(sheet.lines.len(), random)?;
@@ -70,6 +73,7 @@ pub fn other_path(graph: &Graph, sheet: &Sheet, random: &mut Random) -> Option<D
         4 => path.truncate(place + 1),
         _ => path[place] = node,
     }
+    path.truncate(PATH_LIMIT);
     Some(Damaged::left_open(&sheet))
 }
 
