@@ -27,11 +27,11 @@ use Rattle.sheet.specs.Sheet.{Sheet, Line}
 use Rattle.sheet.specs.Encoding.{narrow, encode}
 use Rattle.sheet.specs.Rules.{labelsOf, isListed, lutsOf}
 use Rattle.keeping.specs.Mappers.{MappersSheet}
-use Rattle.keeping.specs.Same.{SameButEvidence}
 use Rattle.keeping.proofs.Mappers.{lut-depth-is-label}
-use Rattle.keeping.proofs.One.{mappers-sheet-is-one}
+use Rattle.keeping.specs.Printed.{mappingOf}
+use Rattle.keeping.proofs.One.{mappers-sheet-is-one, mapping-one}
 use Rattle.listing.specs.Text as text
-use Rattle.cases.specs.Cases.{Given, ByteCase, gateLine, tableFor, headFor, lastGate, claimAt, lutFor, sheetFor, listedLut, listedOutput, mappingOf, SheetOf, SameSheet, MapsAs, loopNumber, Judged, Holds}
+use Rattle.cases.specs.Cases.{Given, ByteCase, gateLine, tableFor, headFor, lastGate, claimAt, lutFor, sheetFor, SheetOf, SameSheet, MapsAs, loopNumber, Judged, Holds}
 use Rattle.cases.proofs.Tests.{both, isSameNumbers, same-numbers, isSameTable, same-table, isSound, sound-verdict, areRoots, roots-rise, isFair, fair, isDeep, deep, Deep}
 use Rattle.cases.proofs.Nets.{net-is, tables-are}
 use Rattle.cases.proofs.Sheets.{mappers-sheet, lines-are}
@@ -114,19 +114,6 @@ module _ (s : List ℕ) (drawing : Drawing) (k : ℕ) (outputs : List ℕ) (test
   says {o} ruling =
       subst (Says s) (λ i. afterOrder (head-is i) (length (reads i .outputs)) o)
       (Says.ordered sound (subst (λ (net : Net). LoopRuling net o) (sym net-read) ruling))
-
--- two sheets that differ in their evidence at most are listed alike
-mapping-one : (table : Table) (a b : Sheet) → SameButEvidence (table .inputs) a b → mappingOf table a ≡ mappingOf table b
-mapping-one table a b same =
-    let labels : labelsOf (table .inputs) (a .lines) ≡ labelsOf (table .inputs) (b .lines) = λ i v. same .lines-same v .label-same i in
-    λ i. record {
-      k = table .k;
-      inputs = table .inputs;
-      gates = length (table .gates);
-      luts = map (listedLut (labels i)) (same .luts-same i);
-      depth = same .depth-same i;
-      outputs = map (listedOutput (labels i)) (table .outputs);
-    }
 
 module _ (given : Given) (drawing : Drawing) (k : ℕ) (outputs : List ℕ) (claims : List Claim) (luts : List Lut) (depth : ℕ)
     (mapped : Mapped (theory.netOf drawing) (theory.tablesOf drawing) k outputs (claimAt drawing claims) luts depth)

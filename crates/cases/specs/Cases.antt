@@ -19,6 +19,7 @@ use Rattle.sheet.specs.Encoding.{narrow, encode}
 use Rattle.sheet.specs.Rules.{lineOfNode, labelsOf, isListed, lutsOf}
 use Rattle.keeping.specs.Mappers.{MappersSheet}
 use Rattle.keeping.specs.Same.{SameButEvidence}
+use Rattle.keeping.specs.Printed.{mappingOf}
 use Rattle.listing.specs.Text as text
 
 -- What is given of a drawing besides what the theory's case says: its bytes and how many they are, how many bytes the mapper's sheet has (0 where
@@ -61,26 +62,6 @@ lutFor claim lut = sheet.lutOf (lut .root) (claim (lut .root) .leaves) (lut .tab
 
 abbrev pub sheetFor : Drawing → List Claim → List Lut → (depth : ℕ) → sheet.Sheet
 sheetFor drawing claims luts depth = record { depth = depth; lines = map lineFor claims; luts = map (lutFor (claimAt drawing claims)) luts }
-
--- What the lister prints of a table and its sheet
-
--- "depths are LUT depths": a root's is its label, and so is an output's
-abbrev pub listedLut : (ℕ → ℕ) → sheet.Lut → text.Lut
-listedLut labels lut = record { root = lut .root; depth = labels (lut .root); leaves = lut .leaves; table = lut .table }
-
-abbrev pub listedOutput : (ℕ → ℕ) → ℕ → text.Output
-listedOutput labels v = record { node = v; depth = labels v }
-
-abbrev pub mappingOf : Table → sheet.Sheet → text.Mapping
-mappingOf table s =
-    record {
-      k = table .k;
-      inputs = table .inputs;
-      gates = length (table .gates);
-      luts = map (listedLut (labelsOf (table .inputs) (s .lines))) (s .luts);
-      depth = s .depth;
-      outputs = map (listedOutput (labelsOf (table .inputs) (s .lines))) (table .outputs);
-    }
 
 -- What is so
 

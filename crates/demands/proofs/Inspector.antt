@@ -19,7 +19,7 @@ use Rattle.inspecting.specs.declared.Inspection.the-variants.{Accepted}
 use Rattle.inspecting.specs.Inspecting.{Drawable, Inspects, KeepsAll, dueIn, sheetIn, replyOf, number, place}
 use Rattle.inspecting.proofs.Replies.{one-reply, keeps-accepted, accepted-exactly}
 use Rattle.demands.specs.Demands.{drawn, ReadsWhole, SomeLoop, InspectorReplies, Demand-1-inspector, Demand-3-right, Demand-3-accepts}
-use Rattle.demands.proofs.Tables.{inputs-are, bounded, outputs-are-nodes, nodes-are, table-ranked}
+use Rattle.keeping.proofs.Tables.{inputs-are, bounded, outputs-are-nodes, nodes-are, table-ranked}
 use Rattle.demands.proofs.Mapper.{sound-not-refused, one-refusal, refusal-number, loop-some, whole-free}
 use Rattle.demands.proofs.Roots.{sound-roots}
 

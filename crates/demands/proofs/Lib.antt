@@ -1,4 +1,3 @@
-pub mod Tables
 pub mod Mapper
 pub mod Roots
 pub mod Inspector

@@ -46,7 +46,7 @@ use Rattle.mapping.specs.declared.Reply.the-variants.{Mapped, Refused, LoopAt, 
 use Rattle.mapping.specs.Maps.{Maps, MapsTo, number, place}
 use Rattle.inspecting.specs.Inspecting.{Drawable, KeepsAll, dueIn, sheetIn, KeepsIn, rulesIn}
 use Rattle.demands.specs.Demands.{drawn, ReadsWhole, SomeLoop, SameReply, MapperReplies, SheetWritten, Demand-1, Demand-2, Demand-3-mapper}
-use Rattle.demands.proofs.Tables.{no-loops, bounded, outputs-are-nodes, nodes-few, nodes-are, k-few, drawing, table-ranked, rank-most}
+use Rattle.keeping.proofs.Tables.{no-loops, bounded, outputs-are-nodes, nodes-few, nodes-are, k-few, drawing, table-ranked, rank-most}
 
 -- What is said of a table, in terms of its reading and its loops.
 
@@ -137,7 +137,7 @@ module _ (s : List ℕ) (whole : ReadsWhole s) (free : LoopRuling (drawn s) orde
   sheet-right sheet mapper =
       kept-is-right (drawn s) (tablesOf (tableOf s)) (headK s) (found s .outputs) sheet (bounded s whole) (table-ranked s whole free) (outputs-are-nodes s whole)
       (mapper .roots)
-      (mappers-sheet-keeps (drawn s) (tablesOf (tableOf s)) (headK s) (found s .outputs) sheet (bounded s whole) (table-ranked s whole free) (outputs-are-nodes s whole) mapper)
+      (mappers-sheet-keeps (drawn s) (tablesOf (tableOf s)) (headK s) (found s .outputs) sheet (bounded s whole) (table-ranked s whole free) (outputs-are-nodes s whole) mapper (mapper .evidence))
 
   due-same : dueFor narrow 191 (headK s) (drawn s) ≡ dueIn s
   unfolding netOf
@@ -160,7 +160,7 @@ module _ (s : List ℕ) (whole : ReadsWhole s) (free : LoopRuling (drawn s) orde
         sound = ap (λ (x : Reading). x .ruling) read;
         each =
             subst (λ (x : Sheet). (rule : Rule) → List·Memᴰ rule (rulesOf (drawn s) x) → Keeps (drawn s) (tablesOf (tableOf s)) (headK s) (found s .outputs) x rule) (sym same)
-            (mappers-sheet-keeps (drawn s) (tablesOf (tableOf s)) (headK s) (found s .outputs) sheet (bounded s whole) (table-ranked s whole free) (outputs-are-nodes s whole) mapper);
+            (mappers-sheet-keeps (drawn s) (tablesOf (tableOf s)) (headK s) (found s .outputs) sheet (bounded s whole) (table-ranked s whole free) (outputs-are-nodes s whole) mapper (mapper .evidence));
       }
 
   pub sheet-one : (a b : Sheet) → MapsTo s a → MapsTo s b → SameButEvidence (headI s) a b

@@ -3,3 +3,4 @@ pub mod Kept
 pub mod Mappers
 pub mod Shaped
 pub mod One
+pub mod Tables

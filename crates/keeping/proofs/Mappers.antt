@@ -25,11 +25,11 @@ use Rattle.covering.specs.Covers.{Needed}
 use Rattle.sheet.specs.Sheet.{Line, Lut, Sheet, noLine, noLut}
 use Rattle.sheet.specs.Rules.{Rule, Keeps, LabelKept, PathsKept, CoverKept, DepthKept, gateRules, lutRules, gates, from, rulesOf, lineOfNode, labelsOf, lutsOf, isListed, leavesListed, tableListed}
 use Rattle.keeping.specs.Right.{Roots, KeepsAll}
-use Rattle.keeping.specs.Mappers.{chosenBy, MappersSheet}
+use Rattle.keeping.specs.Mappers.{chosenBy, SheetWith}
 use Rattle.keeping.proofs.Listed.{ListedLut, listed-lut, root-gate, Stands, member-stands, flat-member, map-member, from-member}
 
-module _ (net : Net) (tables : ℕ → ℕ) (k : ℕ) (outputs : List ℕ) (sheet : Sheet) (bounded : Bounded net k) (ranked : Ranked net)
-    (nodes : (v : ℕ) → List·Memᴰ v outputs → v < net .nodes) (mapper : MappersSheet net tables k outputs sheet) where
+module _ {Asked : (ℕ → ℕ) → ℕ → List (List ℕ) → Type 0} (net : Net) (tables : ℕ → ℕ) (k : ℕ) (outputs : List ℕ) (sheet : Sheet) (bounded : Bounded net k)
+    (ranked : Ranked net) (nodes : (v : ℕ) → List·Memᴰ v outputs → v < net .nodes) (mapper : SheetWith Asked net tables k outputs sheet) where
   lab : ℕ → ℕ
   lab = labelsOf (net .inputs) (sheet .lines)
 
@@ -141,13 +141,16 @@ module _ (net : Net) (tables : ℕ → ℕ) (k : ℕ) (outputs : List ℕ) (shee
   Kept : Rule → Type 0
   Kept = Keeps net tables k outputs sheet
 
-  by-gate : {t : ℕ} → Gate net t → (r : Rule) → List·Memᴰ r (gateRules (net .inputs) (sheet .lines) t) → Kept r
+  abbrev Evident : Type 0
+  Evident = (t : ℕ) → Gate net t → PathsKept net k (labelsOf (net .inputs) (sheet .lines)) t (lineOfNode (net .inputs) (sheet .lines) t .paths)
+
+  by-gate : Evident → {t : ℕ} → Gate net t → (r : Rule) → List·Memᴰ r (gateRules (net .inputs) (sheet .lines) t) → Kept r
   unfolding Kept Keeps lab leaves
-  by-gate {t} gate r m =
+  by-gate evident {t} gate r m =
       ⊎-elim (λ (e : r ≡ _). subst (Keeps net tables k outputs sheet) (sym e) (mappers-cut gate))
       (λ (m : List·Memᴰ r _).
       ⊎-elim (λ (e : r ≡ _). subst (Keeps net tables k outputs sheet) (sym e) (label-kept gate))
-      (λ (m : List·Memᴰ r _). subst (Keeps net tables k outputs sheet) (sym (List·Memᴰ·eq-of-singleton m)) (mapper .evidence t gate)) (List·Memᴰ·cases-cons m))
+      (λ (m : List·Memᴰ r _). subst (Keeps net tables k outputs sheet) (sym (List·Memᴰ·eq-of-singleton m)) (evident t gate)) (List·Memᴰ·cases-cons m))
       (List·Memᴰ·cases-cons m)
 
   by-lut : (lut : Lut) → List·Memᴰ lut (sheet .luts) → (r : Rule) → List·Memᴰ r (lutRules lut) → Kept r
@@ -173,11 +176,11 @@ module _ (net : Net) (tables : ℕ → ℕ) (k : ℕ) (outputs : List ℕ) (shee
   unfolding Kept Keeps luts lab
   by-depth r m = subst (Keeps net tables k outputs sheet) (sym (List·Memᴰ·eq-of-singleton m)) depth-kept
 
-  pub mappers-sheet-keeps : KeepsAll net tables k outputs sheet
+  pub mappers-sheet-keeps : Evident → KeepsAll net tables k outputs sheet
   unfolding Kept
-  mappers-sheet-keeps =
+  mappers-sheet-keeps evident =
       let by-gates : All (flatMap (gateRules (net .inputs) (sheet .lines)) (gates net)) =
-      λ r m. let (t, (member, on)) = flat-member (gateRules (net .inputs) (sheet .lines)) (gates net) m in by-gate (gate-of member) r on in
+      λ r m. let (t, (member, on)) = flat-member (gateRules (net .inputs) (sheet .lines)) (gates net) m in by-gate evident (gate-of member) r on in
       let by-luts : All (flatMap lutRules (sheet .luts)) = λ r m. let (lut, (member, on)) = flat-member lutRules (sheet .luts) m in by-lut lut member r on in
       let first = flatMap (gateRules (net .inputs) (sheet .lines)) (gates net) in
       let second = flatMap lutRules (sheet .luts) in

@@ -23,9 +23,11 @@ use Rattle.theory.proofs.Cones.{cone-table-only}
 use Rattle.covering.specs.Covers.{Needed}
 use Rattle.sheet.specs.Sheet.{Line, Lut, Sheet, noLine}
 use Rattle.sheet.specs.Rules.{lineOfNode, labelsOf, isListed, leavesListed, tableListed}
+use Rattle.drawing.specs.Table.{Table}
 use Rattle.keeping.specs.Right.{Roots}
-use Rattle.keeping.specs.Mappers.{chosenBy, MappersSheet}
+use Rattle.keeping.specs.Mappers.{chosenBy, SheetWith}
 use Rattle.keeping.specs.Same.{SameLine, SameButEvidence}
+use Rattle.keeping.specs.Printed.{listedLut, listedOutput, mappingOf}
 use Rattle.keeping.proofs.Listed.{ListedLut, listed-lut, root-gate, Stands, member-stands}
 use Rattle.keeping.proofs.Mappers.{mappers-cover}
 
@@ -131,8 +133,9 @@ no-line inputs lines v (inl low) = ap (λ (b : Bool). cond b noLine (getD lines 
 no-line inputs lines v (inr high) =
     ap (λ (b : Bool). cond b noLine (getD lines (v - inputs) noLine)) (le-ltb v inputs (omega arith)) ∙ List·getD-eq-default lines noLine (omega arith)
 
-module _ (net : Net) (tables : ℕ → ℕ) (k : ℕ) (outputs : List ℕ) (a b : Sheet) (bounded : Bounded net k) (ranked : Ranked net)
-    (nodes : (v : ℕ) → List·Memᴰ v outputs → v < net .nodes) (mapper : MappersSheet net tables k outputs a) (other : MappersSheet net tables k outputs b) where
+module _ {Asked Other : (ℕ → ℕ) → ℕ → List (List ℕ) → Type 0} (net : Net) (tables : ℕ → ℕ) (k : ℕ) (outputs : List ℕ) (a b : Sheet) (bounded : Bounded net k)
+    (ranked : Ranked net) (nodes : (v : ℕ) → List·Memᴰ v outputs → v < net .nodes) (mapper : SheetWith Asked net tables k outputs a)
+    (other : SheetWith Other net tables k outputs b) where
   -- of every node, from what holds of gates
   data Kind (v : ℕ) : Type 0 where
     gate : Gate net v → Kind v
@@ -198,3 +201,16 @@ module _ (net : Net) (tables : ℕ → ℕ) (k : ℕ) (outputs : List ℕ) (a b 
             luts-one (a .luts) (b .luts) (mapper .roots) (other .roots)
             (record { roots-same = roots-one; leaves-same = listed-leaves-one; tables-same = tables-one });
       }
+
+-- two sheets that differ in their evidence at most are listed alike
+pub mapping-one : (table : Table) (a b : Sheet) → SameButEvidence (table .inputs) a b → mappingOf table a ≡ mappingOf table b
+mapping-one table a b same =
+    let labels : labelsOf (table .inputs) (a .lines) ≡ labelsOf (table .inputs) (b .lines) = λ i v. same .lines-same v .label-same i in
+    λ i. record {
+      k = table .k;
+      inputs = table .inputs;
+      gates = length (table .gates);
+      luts = map (listedLut (labels i)) (same .luts-same i);
+      depth = same .depth-same i;
+      outputs = map (listedOutput (labels i)) (table .outputs);
+    }

@@ -14,16 +14,44 @@ use Rattle.area.specs.Area.{labelIn}
 use Rattle.labelling.specs.Labels.{Scratch, scratchOf}
 use Rattle.labelling.proofs.Places.{cut-length}
 use Rattle.sheet.specs.declared.Form.{Form}
+use Rattle.sheet.specs.Sheet.{Line, noLine}
 use Rattle.sheet.specs.Encoding.{narrow}
 use Rattle.sheet.specs.Longest.{sheetMost}
 use Rattle.sheet.proofs.Longest.{most-grows}
 use Rattle.mapping.specs.declared.gates.Mapping.{Mapping}
 use Rattle.mapping.specs.declared.Reply.the-variants.{Mapped}
-use Rattle.mapping.specs.Tables.{Made, madeOf, MappingMade}
+use Rattle.mapping.specs.Tables.{Made, madeOf, MapAsked, MappingMade}
 use Rattle.mapping.specs.Sheets.{SheetAsked, sheetIn, SheetWritten, DrawingAsked, DrawingMapped, TakenAsked, TakenMapped}
 use Rattle.mapping.proofs.LinesWritten.{SameSizes, still-long}
 use Rattle.mapping.proofs.StageOne.{all-labelled, cut-made, root-gate}
-use Rattle.mapping.proofs.SheetsMade.{Standing, mappers-sheet, luts-counted, luts-few}
+use Rattle.mapping.proofs.SheetsMade.{LineSays, Standing, mappers-sheet, luts-counted, luts-few}
+
+-- What stage one leaves stands in the arrays
+module _ {inputs nodes k : ℕ} {fan count rows order outputs : List ℕ} {number : ℕ} {m : Made} {s : Scratch}
+    (asked : MapAsked inputs nodes k fan count rows order outputs number m s)
+    {r : Mapping} {m′ : Made} {s′ : Scratch} (made : MappingMade inputs nodes k fan count rows outputs number m s r m′ s′) where
+  labelled-nodes : (v : ℕ) → v < netIn inputs nodes fan count .nodes → Label (netIn inputs nodes fan count) k [] v (labelIn (m′ .labels) v)
+  unfolding netIn
+  labelled-nodes v low = all-labelled asked (made .labelled .made) .label v low []
+
+  zeros : (v : ℕ) → Input (netIn inputs nodes fan count) v → labelIn (m′ .labels) v ≡ 0
+  zeros =
+      labels-at-inputs (asked .drawing .drawn .bounded) (drawn-ranked (asked .drawing .drawn) (asked .drawing .ordered)) labelled-nodes
+
+  pub standing : (lines : List Line) → inputs + length lines ≡ nodes →
+      ((i : ℕ) → i < length lines → LineSays (m′ .labels) (m′ .leaves) (m′ .sizes) (inputs + i) (getD lines i noLine)) →
+      Standing inputs nodes k fan count rows (m′ .labels) (m′ .leaves) (m′ .sizes) (m′ .roots) (m′ .tables) (take number outputs) lines
+  standing lines gates each =
+      record {
+        bounded = asked .drawing .drawn .bounded;
+        zeros = zeros;
+        labelled = all-labelled asked (made .labelled .made);
+        marks = made .cover .marks;
+        tables-known = made .tables .each;
+        outputs-low = asked .output-nodes;
+        gates = gates;
+        each = each;
+      }
 
 module _ {form : Form} {inputs nodes k : ℕ} {fan count rows order outputs : List ℕ} {number : ℕ} {m : Made} {s : Scratch} {path sheet : List ℕ}
     (asked : DrawingAsked form inputs nodes k fan count rows order outputs number m s path sheet)
@@ -54,32 +82,15 @@ module _ {form : Form} {inputs nodes k : ℕ} {fan count rows order outputs : Li
         room = asked .room;
       }
 
-  labelled-nodes : (v : ℕ) → v < netIn inputs nodes fan count .nodes → Label (netIn inputs nodes fan count) k [] v (labelIn (m′ .labels) v)
-  unfolding netIn
-  labelled-nodes v low = all-labelled (asked .arrays) (made .labelled .made) .label v low []
-
-  zeros : (v : ℕ) → Input (netIn inputs nodes fan count) v → labelIn (m′ .labels) v ≡ 0
-  zeros =
-      labels-at-inputs (asked .arrays .drawing .drawn .bounded) (drawn-ranked (asked .arrays .drawing .drawn) (asked .arrays .drawing .ordered)) labelled-nodes
-
   pub drawing-mapped : {n : ℕ} {after : List ℕ} →
       SheetWritten form inputs nodes k fan count (m′ .labels) (m′ .leaves) (m′ .sizes) (m′ .roots) (m′ .tables) r sheet n after →
       DrawingMapped form inputs nodes k fan count rows outputs number sheet n after
   drawing-mapped w =
-      let standing : Standing inputs nodes k fan count rows (m′ .labels) (m′ .leaves) (m′ .sizes) (m′ .roots) (m′ .tables) (take number outputs) (w .lines) =
-      record {
-        bounded = asked .arrays .drawing .drawn .bounded;
-        zeros = zeros;
-        labelled = all-labelled (asked .arrays) (made .labelled .made);
-        marks = made .cover .marks;
-        tables-known = made .tables .each;
-        outputs-low = asked .arrays .output-nodes;
-        gates = w .gates;
-        each = w .each;
-      } in
+      let stands =
+      standing (asked .arrays) made (w .lines) (w .gates) (λ i low. let is = w .each i low in record { label = is .label; cut = is .cut }) in
       record {
         sheet = sheetIn (r .depth .depth) (w .lines) (m′ .leaves) (m′ .sizes) (m′ .roots) (m′ .tables) nodes;
-        mappers = mappers-sheet standing (r .depth .depth) (made .depth);
+        mappers = mappers-sheet stands (λ i low. w .each i low .paths) (r .depth .depth) (made .depth);
         fits = w .fits;
         written = w .written;
       }
@@ -94,6 +105,37 @@ module _ {h : Head} {number : ℕ} {fan count rows outputs order : List ℕ} (as
       let grows = most-grows 1 (asked .drawing .k-small) (asked .nodes-most) gates in
       subst (λ (f : Form). sheetMost (f .width) (h .k .leaves) (h .inputs + h .gates) (h .inputs + h .gates - h .inputs) ≤ room) (sym is) (omega (arith, grows))
 
+  pub paper-arrays : {labels leaves sizes walked met deep area ends next prev ins outs parent roots values tables : List ℕ} →
+      192 ≤ length labels → 1152 ≤ length leaves → 192 ≤ length sizes → 192 ≤ length walked → 192 ≤ length met → 192 ≤ length deep → 192 ≤ length area →
+      192 ≤ length ends → 192 ≤ length next → 192 ≤ length prev → 192 ≤ length ins → 192 ≤ length outs → 192 ≤ length parent → 192 ≤ length roots →
+      192 ≤ length values → 192 ≤ length tables →
+      MapAsked (h .inputs) (h .inputs + h .gates) (h .k .leaves) fan count rows order outputs number (madeOf labels leaves sizes roots values tables)
+      (scratchOf walked met deep area ends next prev ins outs parent)
+  paper-arrays labels leaves sizes walked met deep area ends next prev ins outs parent roots values tables =
+      let most = asked .nodes-most in
+      record {
+        drawing = asked .drawing;
+        rows-long = asked .rows-long;
+        outputs-long = asked .outputs-long;
+        output-nodes = asked .output-nodes;
+        room = record { labels-long = omega arith; leaves-long = omega arith; sizes-long = omega arith };
+        scratch = record {
+          walked-long = omega arith;
+          met-long = omega arith;
+          deep-long = omega arith;
+          area-long = omega arith;
+          ends-long = omega arith;
+          next-long = omega arith;
+          prev-long = omega arith;
+          in-long = omega arith;
+          out-long = omega arith;
+          parent-long = omega arith;
+        };
+        roots-long = omega arith;
+        values-long = omega arith;
+        tables-long = omega arith;
+      }
+
   pub paper-asked : {form : Form} → form ≡ narrow → {labels leaves sizes walked met deep area ends next prev ins outs parent roots values tables path sheet : List ℕ} →
       192 ≤ length labels → 1152 ≤ length leaves → 192 ≤ length sizes → 192 ≤ length walked → 192 ≤ length met → 192 ≤ length deep → 192 ≤ length area →
       192 ≤ length ends → 192 ≤ length next → 192 ≤ length prev → 192 ≤ length ins → 192 ≤ length outs → 192 ≤ length parent → 192 ≤ length roots →
@@ -103,28 +145,7 @@ module _ {h : Head} {number : ℕ} {fan count rows outputs order : List ℕ} (as
   paper-asked {form} is {sheet = sheet} labels leaves sizes walked met deep area ends next prev ins outs parent roots values tables path long =
       let most = asked .nodes-most in
       record {
-        arrays = record {
-          drawing = asked .drawing;
-          rows-long = asked .rows-long;
-          outputs-long = asked .outputs-long;
-          output-nodes = asked .output-nodes;
-          room = record { labels-long = omega arith; leaves-long = omega arith; sizes-long = omega arith };
-          scratch = record {
-            walked-long = omega arith;
-            met-long = omega arith;
-            deep-long = omega arith;
-            area-long = omega arith;
-            ends-long = omega arith;
-            next-long = omega arith;
-            prev-long = omega arith;
-            in-long = omega arith;
-            out-long = omega arith;
-            parent-long = omega arith;
-          };
-          roots-long = omega arith;
-          values-long = omega arith;
-          tables-long = omega arith;
-        };
+        arrays = paper-arrays labels leaves sizes walked met deep area ends next prev ins outs parent roots values tables;
         some = asked .some;
         path-long = omega arith;
         room = paper-room is (length sheet) long;

@@ -12,9 +12,9 @@ use Rattle.theory.specs.Lookup.{ConeTable}
 use Rattle.drawing.specs.declared.Head.{Head}
 use Rattle.drawing.specs.declared.Node.{Node}
 use Rattle.drawing.specs.declared.Refusal.{Refusal}
-use Rattle.drawing.specs.Table.{netIn, tablesIn}
+use Rattle.drawing.specs.Table.{netOf, netIn, tablesOf, tablesIn}
 use Rattle.drawing.specs.Fields.{headK, headI}
-use Rattle.drawing.specs.Reading.{found, headOf, nodesOf, arraysOf, enough}
+use Rattle.drawing.specs.Reading.{found, tableOf, headOf, nodesOf, arraysOf, enough}
 use Rattle.drawing.proofs.SoundTables.{table-sound}
 use Rattle.walking.specs.declared.Ordering.the-variants as made
 use Rattle.taking.specs.declared.Taking.{Taking}
@@ -25,7 +25,8 @@ use Rattle.taking.proofs.Judged.{says-one, takes-says, TakenAs, taken-ready}
 use Rattle.sheet.specs.Sheet.{Sheet}
 use Rattle.sheet.specs.Encoding.{narrow, encode}
 use Rattle.sheet.proofs.Joins.{front-written}
-use Rattle.keeping.specs.Mappers.{MappersSheet}
+use Rattle.sheet.specs.Rules.{PathsKept}
+use Rattle.keeping.specs.Mappers.{SheetWith}
 use Rattle.mapping.specs.declared.Reply.{Reply}
 use Rattle.mapping.specs.declared.Reply.the-variants.{Mapped, Refused, LoopAt, Room}
 use Rattle.mapping.specs.Sheets.{TakenAsked, TakenMapped}
@@ -41,8 +42,8 @@ cone-table-same {net} same cone =
       rows = cone .rows;
     }
 
-mappers-same : {net : Net} {tables others : ℕ → ℕ} {k : ℕ} {outputs : List ℕ} {sheet : Sheet} → ((v : ℕ) → Gate net v → tables v ≡ others v) →
-    MappersSheet net tables k outputs sheet → MappersSheet net others k outputs sheet
+mappers-same : {Asked : (ℕ → ℕ) → ℕ → List (List ℕ) → Type 0} {net : Net} {tables others : ℕ → ℕ} {k : ℕ} {outputs : List ℕ} {sheet : Sheet} →
+    ((v : ℕ) → Gate net v → tables v ≡ others v) → SheetWith Asked net tables k outputs sheet → SheetWith Asked net others k outputs sheet
 mappers-same same m =
     record {
       gates = m .gates;
@@ -78,12 +79,14 @@ module _ {s fan count rows outputs order : List ℕ} (ready : Ready s fan count 
         output-nodes = λ v m. table .nodes-only v (subst (List·Memᴰ v) (ready .outputs-held) m);
       }))
 
-  -- the sheet of the arrays' drawing is the table's
-  maps-to : {sheet : Sheet} → MappersSheet (netIn (headI s) (nodesOf s) fan count) (tablesIn rows) (headK s) (take (length (found s .outputs)) outputs) sheet → MapsTo s sheet
-  maps-to {sheet} m =
+  -- the sheet of the arrays' drawing is the table's, whatever is asked of the paths
+  pub sheet-of-table : (Asked : Net → (ℕ → ℕ) → ℕ → List (List ℕ) → Type 0) {sheet : Sheet} →
+      SheetWith (Asked (netIn (headI s) (nodesOf s) fan count)) (netIn (headI s) (nodesOf s) fan count) (tablesIn rows) (headK s) (take (length (found s .outputs)) outputs) sheet →
+      SheetWith (Asked (netOf (tableOf s))) (netOf (tableOf s)) (tablesOf (tableOf s)) (headK s) (found s .outputs) sheet
+  sheet-of-table Asked {sheet} m =
       mappers-same (ready .tables)
-      (subst (λ (net : Net). MappersSheet net (tablesIn rows) (headK s) (found s .outputs) sheet) (ready .net)
-      (subst (λ (o : List ℕ). MappersSheet (netIn (headI s) (nodesOf s) fan count) (tablesIn rows) (headK s) o sheet) (ready .outputs-held) m))
+      (subst (λ (net : Net). SheetWith (Asked net) net (tablesIn rows) (headK s) (found s .outputs) sheet) (ready .net)
+      (subst (λ (o : List ℕ). SheetWith (Asked (netIn (headI s) (nodesOf s) fan count)) (netIn (headI s) (nodesOf s) fan count) (tablesIn rows) (headK s) o sheet) (ready .outputs-held) m))
 
   taken-here : Taken s
   taken-here = Says.ordered (ready .whole) (ready .no-loop)
@@ -92,7 +95,7 @@ module _ {s fan count rows outputs order : List ℕ} (ready : Ready s fan count 
   maps-headed (TakenMapped.room short is same) = Maps.room taken-here short is same
   maps-headed {before} {r} {after} (TakenMapped.mapped {n} long is done) =
       let front = front-written (done .written) (done .fits) in
-      Maps.mapped (done .sheet) taken-here long (maps-to (done .mappers)) (is ∙ ap Mapped (front .1)) (front .0)
+      Maps.mapped (done .sheet) taken-here long (sheet-of-table (λ (net : Net). PathsKept net (headK s)) (done .mappers)) (is ∙ ap Mapped (front .1)) (front .0)
 
   pub maps-taken : {h : Head} {n : ℕ} {before : List ℕ} {r : Reply} {after : List ℕ} → h ≡ headOf s → n ≡ length (found s .outputs) →
       TakenMapped h n fan count rows outputs before r after → Maps s before r after
@@ -118,7 +121,7 @@ module _ {fan₀ count₀ rows₀ outputs₀ order₀ marks₀ s fan count rows 
   roomy-so : roomy order₀ marks₀ ≡ true
   roomy-so = simp (le-leb 192 (length order₀) order-long, le-leb 192 (length marks₀) marks-long)
 
-  says : Says s t
+  pub says : Says s t
   says = takes-says (arraysOf fan₀ count₀ rows₀ outputs₀) order₀ marks₀ s long roomy-so takes
 
   pub table-taken : {h : Head} {n : ℕ} → t ≡ taking.Taken h n → length fan ≡ length fan₀ → length count ≡ length count₀ → length rows ≡ length rows₀ →

@@ -34,9 +34,9 @@ use Rattle.covering.specs.Covers.{Needed, CoverMade, isRoot, lutCount}
 use Rattle.sheet.specs.Sheet.{Line, noLine}
 use Rattle.sheet.specs.Rules.{lineOfNode, labelsOf, isListed, leavesListed, tableListed, PathsKept}
 use Rattle.keeping.specs.Right.{Roots}
-use Rattle.keeping.specs.Mappers.{MappersSheet}
+use Rattle.keeping.specs.Mappers.{SheetWith, MappersSheet}
 use Rattle.mapping.specs.Luts.{isMarked, lutIn, lutsBelow}
-use Rattle.mapping.specs.Lines.{Labelled, LineOf}
+use Rattle.mapping.specs.Lines.{Labelled}
 use Rattle.mapping.specs.Tables.{TableIs}
 use Rattle.mapping.proofs.StageOne.{needed-gate}
 
@@ -163,6 +163,11 @@ needed-moves gates leaves (Needed.output m gate) = Needed.output m (gates _ gate
 needed-moves gates leaves (Needed.leaf {r = r} {v = v} n m gate) =
     Needed.leaf (needed-moves gates leaves n) (leaves r v (needed-gate n) m) (gates v gate)
 
+-- A gate's line has its label and its cut.
+pub record LineSays (labels leaves sizes : List ℕ) (t : ℕ) (line : Line) : Type 0 where
+  pub label : line .label ≡ labelIn labels t
+  pub cut : line .leaves ≡ cutIn leaves sizes t
+
 -- What stands in the arrays.
 pub record Standing (inputs nodes k : ℕ) (fan count rows labels leaves sizes roots tables outputs : List ℕ) (lines : List Line) : Type 0 where
   pub bounded : Bounded (netIn inputs nodes fan count) k
@@ -172,7 +177,7 @@ pub record Standing (inputs nodes k : ℕ) (fan count rows labels leaves sizes r
   pub tables-known : (v : ℕ) → v < nodes → TableIs (netIn inputs nodes fan count) (tablesIn rows) leaves sizes roots v (getD tables v 0)
   pub outputs-low : (v : ℕ) → List·Memᴰ v outputs → v < nodes
   pub gates : inputs + length lines ≡ nodes
-  pub each : (i : ℕ) → i < length lines → LineOf (netIn inputs nodes fan count) k labels leaves sizes (inputs + i) (getD lines i noLine)
+  pub each : (i : ℕ) → i < length lines → LineSays labels leaves sizes (inputs + i) (getD lines i noLine)
 
 module _ {inputs nodes k : ℕ} {fan count rows labels leaves sizes roots tables outputs : List ℕ} {lines : List Line}
     (st : Standing inputs nodes k fan count rows labels leaves sizes roots tables outputs lines) where
@@ -184,20 +189,23 @@ module _ {inputs nodes k : ℕ} {fan count rows labels leaves sizes roots tables
   unfolding netIn
   gate-span a b gate = (gate .above, gate .below)
 
-  -- a gate's line
-  line-is : (v : ℕ) → inputs ≤ v → v < nodes → LineOf (netIn inputs nodes fan count) k labels leaves sizes v (lineOfNode inputs lines v)
+  -- what holds of each line, of a gate's
+  line-at : (P : ℕ → Line → Type 0) → ((i : ℕ) → i < length lines → P (inputs + i) (getD lines i noLine)) → (v : ℕ) → inputs ≤ v → v < nodes →
+      P v (lineOfNode inputs lines v)
   unfolding lineOfNode
-  line-is v above below =
+  line-at P each v above below =
       let place : inputs + (v - inputs) ≡ v = omega arith in
-      subst (λ (b : Bool). LineOf (netIn inputs nodes fan count) k labels leaves sizes v (cond b noLine (getD lines (v - inputs) noLine))) (sym (le-ltb v inputs above))
-      (subst (λ (u : ℕ). LineOf (netIn inputs nodes fan count) k labels leaves sizes u (getD lines (v - inputs) noLine)) place
-      (st .each (v - inputs) (omega (arith, st .gates))))
+      subst (λ (b : Bool). P v (cond b noLine (getD lines (v - inputs) noLine))) (sym (le-ltb v inputs above))
+      (subst (λ (u : ℕ). P u (getD lines (v - inputs) noLine)) place (each (v - inputs) (omega (arith, st .gates))))
+
+  line-is : (v : ℕ) → inputs ≤ v → v < nodes → LineSays labels leaves sizes v (lineOfNode inputs lines v)
+  line-is = line-at (LineSays labels leaves sizes) (st .each)
 
   input-label : (v : ℕ) → v < inputs → labelsOf inputs lines v ≡ 0
   unfolding lineOfNode
   input-label v low = ap (λ (b : Bool). cond b noLine (getD lines (v - inputs) noLine) .label) (lt-ltb v inputs low)
 
-  label-same : (v : ℕ) → v < nodes → labelIn labels v ≡ labelsOf inputs lines v
+  pub label-same : (v : ℕ) → v < nodes → labelIn labels v ≡ labelsOf inputs lines v
   unfolding netIn
   label-same v low = by (decLt v inputs)
     where
@@ -247,10 +255,13 @@ module _ {inputs nodes k : ℕ} {fan count rows labels leaves sizes roots tables
   unfolding chosen
   needed-low n = needed-gate n .below
 
-  pub mappers-sheet : (depth : ℕ) → depth ≡ greatest (map (labelIn labels) outputs) →
-      MappersSheet (netIn inputs nodes fan count) (tablesIn rows) k outputs (record { depth = depth; lines = lines; luts = lutsBelow leaves sizes roots tables nodes })
+  -- the mapper's sheet, whatever is asked of the paths
+  pub sheet-with : {Asked : (ℕ → ℕ) → ℕ → List (List ℕ) → Type 0} →
+      ((t : ℕ) → Gate (netIn inputs nodes fan count) t → Asked (labelsOf inputs lines) t (lineOfNode inputs lines t .paths)) →
+      (depth : ℕ) → depth ≡ greatest (map (labelIn labels) outputs) →
+      SheetWith Asked (netIn inputs nodes fan count) (tablesIn rows) k outputs (record { depth = depth; lines = lines; luts = lutsBelow leaves sizes roots tables nodes })
   unfolding netIn lutsBelow ids chosen
-  mappers-sheet depth deep =
+  sheet-with kept depth deep =
       record {
         gates = st .gates;
         labels = λ t gate any.
@@ -258,7 +269,7 @@ module _ {inputs nodes k : ℕ} {fan count rows labels leaves sizes roots tables
         cuts = λ t gate.
             subst (MappersCut (netIn inputs nodes fan count) k (labelsOf inputs lines) t) (sym (line-is t (gate .above) (gate .below) .cut))
             (mappers-cut-agrees (agree t gate) (label-same t (gate .below)) (st .labelled .cut t gate));
-        evidence = λ t gate. paths-agree (agree t gate) (label-same t (gate .below)) (line-is t (gate .above) (gate .below) .paths);
+        evidence = kept;
         roots = roots-rise leaves sizes tables nodes inputs ids (those-rising (isMarked roots) nodes) (λ v m. id-gate m);
         needed = λ v e.
             let (low, one) = id-marked (listed-member leaves sizes tables ids v e) in
@@ -277,6 +288,15 @@ module _ {inputs nodes k : ℕ} {fan count rows labels leaves sizes roots tables
             (subst (ConeTable (netIn inputs nodes fan count) (tablesIn rows) (cutIn leaves sizes v) v) (sym (is .1)) (st .tables-known v low .root one));
         depth = deep ∙ ap greatest (map-agree (labelIn labels) (labelsOf inputs lines) outputs (λ v m. label-same v (st .outputs-low v m)));
       }
+
+  pub mappers-sheet : ((i : ℕ) → i < length lines → PathsKept (netIn inputs nodes fan count) k (labelIn labels) (inputs + i) (getD lines i noLine .paths)) →
+      (depth : ℕ) → depth ≡ greatest (map (labelIn labels) outputs) →
+      MappersSheet (netIn inputs nodes fan count) (tablesIn rows) k outputs (record { depth = depth; lines = lines; luts = lutsBelow leaves sizes roots tables nodes })
+  mappers-sheet kept =
+      sheet-with (λ t gate.
+      let (above, below) = gate-span fan count gate in
+      paths-agree (agree t gate) (label-same t below)
+      (line-at (λ (v : ℕ) (line : Line). PathsKept (netIn inputs nodes fan count) k (labelIn labels) v (line .paths)) kept t above below))
 
 -- the LUTs' number and how few they are, from what `cover` marks
 module _ {inputs nodes : ℕ} {leaves sizes outputs before : List ℕ} {luts : ℕ} {roots : List ℕ}

@@ -1,0 +1,5 @@
+pub mod Listed
+pub mod Tables
+pub mod Fronts
+pub mod Replies
+pub mod One

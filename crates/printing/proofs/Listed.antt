@@ -1,0 +1,177 @@
+-- What stage one leaves in the arrays, with a line for each gate that has no paths, is a settled sheet; and the mapping that the arrays hold is the
+-- one printed of it.
+use Prim.Native.Nat.{ℕ, zero, suc, _+_, _-_, _≤_, _<_}
+use native.Mathlib.Omega.{arith}
+use mathlib.Core.Path.{_≡_, refl, ap, sym, subst, _∙_}
+use mathlib.Core.List.{List, [], _∷_, _++_, map, map-map, append-nil, append-assoc}
+use mathlib.Core.Bool.{cond}
+use lib.ListN.{length, getD, take, length-map}
+use lib.Seq.{take-suc, length-take-le}
+use Rattle.theory.proofs.Picks.{map-agree}
+use Rattle.drawing.specs.declared.Head.{Head}
+use Rattle.drawing.specs.Table.{Table, netIn, tablesIn}
+use Rattle.walking.proofs.Entries.{member-of-part}
+use Rattle.area.specs.Area.{labelIn}
+use Rattle.flow.specs.Numbers.{those}
+use Rattle.flow.proofs.Sums.{those-hold}
+use Rattle.labelling.specs.Storing.{cutIn}
+use Rattle.labelling.specs.Labels.{Scratch, scratchOf}
+use Rattle.sheet.specs.Sheet.{Line, Sheet, lineOf, noLine}
+use Rattle.sheet.specs.Rules.{from, labelsOf}
+use Rattle.listing.specs.Text.{Lut, Mapping as Printed, listingOf}
+use Rattle.listing.specs.Puts.{Wrote}
+use Rattle.listing.specs.Arrays.{Arrays, arraysOf, lutAt, outputAt, marked, markedFrom, lutsIn, outputsIn, mappingIn, Held, room}
+use Rattle.keeping.specs.Mappers.{SettledSheet}
+use Rattle.keeping.specs.Printed.{listedLut, listedOutput, mappingOf}
+use Rattle.mapping.specs.declared.gates.Mapping.{Mapping}
+use Rattle.mapping.specs.Luts.{isMarked, lutIn, lutsBelow}
+use Rattle.mapping.specs.Tables.{Made, madeOf, MapAsked, MappingMade}
+use Rattle.mapping.specs.Sheets.{sheetIn}
+use Rattle.mapping.proofs.StageOne.{all-labelled}
+use Rattle.mapping.proofs.SheetsMade.{Standing, sheet-with, label-same, luts-counted}
+use Rattle.mapping.proofs.DrawingsMapped.{standing}
+use Rattle.printing.specs.Lists.{ListAsked, TakenListed}
+
+-- The marked nodes, by the marks and by their ids
+
+marked-snoc : (v : ℕ) (xs : List ℕ) (x : ℕ) → markedFrom v (xs ++ (x ∷ [])) ≡ markedFrom v xs ++ marked (v + length xs) x
+unfolding markedFrom
+marked-snoc v [] x = append-nil (marked v x) ∙ ap (λ (u : ℕ). marked u x) (omega arith)
+marked-snoc v (y ∷ xs) x =
+    ap (λ (l : List ℕ). marked v y ++ l) (marked-snoc (suc v) xs x)
+    ∙ sym (append-assoc (marked v y) (markedFrom (suc v) xs) (marked (suc v + length xs) x))
+    ∙ ap (λ (u : ℕ). marked v y ++ markedFrom (suc v) xs ++ marked u x) (omega arith)
+
+marked-those : (roots : List ℕ) (n : ℕ) → n ≤ length roots → markedFrom 0 (take n roots) ≡ those (isMarked roots) n
+unfolding markedFrom those
+marked-those roots zero fits = refl
+marked-those roots (suc n) fits =
+    ap (markedFrom 0) (take-suc roots n 0 (omega arith))
+    ∙ marked-snoc 0 (take n roots) (getD roots n 0)
+    ∙ ap (λ (u : ℕ). markedFrom 0 (take n roots) ++ marked u (getD roots n 0)) (omega (arith, length-take-le n roots (omega arith)))
+    ∙ ap (λ (l : List ℕ). l ++ cond (isMarked roots n) (n ∷ []) []) (marked-those roots n (omega arith))
+
+-- A line for each number from v on
+
+from-length : (v n : ℕ) → length (from v n) ≡ n
+unfolding from
+from-length v zero = refl
+from-length v (suc n) = ap suc (from-length (suc v) n)
+
+line-at : (line : ℕ → Line) (v n i : ℕ) → i < n → getD (map line (from v n)) i noLine ≡ line (v + i)
+unfolding from
+line-at line v zero i low = absurd (omega arith)
+line-at line v (suc n) zero low = ap line (omega arith)
+line-at line v (suc n) (suc i) low = line-at line (suc v) n i (omega arith) ∙ ap line (omega arith)
+
+module _ {inputs nodes k : ℕ} {fan count rows order outputs : List ℕ} {number : ℕ} {m : Made} {s : Scratch}
+    (asked : MapAsked inputs nodes k fan count rows order outputs number m s)
+    {r : Mapping} {m′ : Made} {s′ : Scratch} (made : MappingMade inputs nodes k fan count rows outputs number m s r m′ s′) where
+  abbrev bare : ℕ → Line
+  bare v = lineOf (labelIn (m′ .labels) v) (cutIn (m′ .leaves) (m′ .sizes) v) []
+
+  abbrev lines : List Line
+  lines = map bare (from inputs (nodes - inputs))
+
+  abbrev arrays : Arrays
+  arrays = arraysOf (m′ .labels) (m′ .leaves) (m′ .sizes) (m′ .roots) (m′ .tables) outputs
+
+  abbrev sheet : Sheet
+  sheet = sheetIn (r .depth .depth) lines (m′ .leaves) (m′ .sizes) (m′ .roots) (m′ .tables) nodes
+
+  span : inputs ≤ nodes
+  unfolding netIn
+  span = asked .drawing .drawn .bounded .span
+
+  many : length lines ≡ nodes - inputs
+  many = length-map (from inputs (nodes - inputs)) bare ∙ from-length inputs (nodes - inputs)
+
+  stands : Standing inputs nodes k fan count rows (m′ .labels) (m′ .leaves) (m′ .sizes) (m′ .roots) (m′ .tables) (take number outputs) lines
+  stands =
+      standing asked made lines (omega (arith, many, span)) (λ i low.
+      let is = line-at bare inputs (nodes - inputs) i (omega (arith, low, many)) in
+      record { label = ap (λ (l : Line). l .label) is; cut = ap (λ (l : Line). l .leaves) is })
+
+  settled : SettledSheet (netIn inputs nodes fan count) (tablesIn rows) k (take number outputs) sheet
+  settled = sheet-with stands (λ t gate. tt) (r .depth .depth) (made .depth)
+
+  -- what is printed
+
+  roots-long : nodes ≤ length (m′ .roots)
+  roots-long = omega (arith, asked .roots-long, made .cover .long)
+
+  luts-are : lutsIn arrays nodes ≡ map (listedLut (labelsOf inputs lines)) (lutsBelow (m′ .leaves) (m′ .sizes) (m′ .roots) (m′ .tables) nodes)
+  unfolding lutsBelow lutAt
+  luts-are =
+      ap (map (lutAt (m′ .labels) (m′ .leaves) (m′ .sizes) (m′ .tables))) (marked-those (m′ .roots) nodes roots-long)
+      ∙ map-agree (lutAt (m′ .labels) (m′ .leaves) (m′ .sizes) (m′ .tables))
+      (λ v. listedLut (labelsOf inputs lines) (lutIn (m′ .leaves) (m′ .sizes) (m′ .tables) v)) (those (isMarked (m′ .roots)) nodes)
+      (λ v among.
+      let same : labelIn (m′ .labels) v ≡ labelsOf inputs lines v = label-same stands v (those-hold (isMarked (m′ .roots)) nodes among .0) in
+      λ i. record { root = v; depth = same i; leaves = cutIn (m′ .leaves) (m′ .sizes) v; table = getD (m′ .tables) v 0 })
+      ∙ sym (map-map (listedLut (labelsOf inputs lines)) (lutIn (m′ .leaves) (m′ .sizes) (m′ .tables)) (those (isMarked (m′ .roots)) nodes))
+
+  outputs-are : outputsIn arrays number ≡ map (listedOutput (labelsOf inputs lines)) (take number outputs)
+  unfolding outputAt
+  outputs-are =
+      map-agree (outputAt (m′ .labels)) (listedOutput (labelsOf inputs lines)) (take number outputs) (λ v among.
+      let same : labelIn (m′ .labels) v ≡ labelsOf inputs lines v = label-same stands v (asked .output-nodes v among) in
+      λ i. record { node = v; depth = same i })
+
+  held : Held inputs nodes arrays number
+  held =
+      let labelled = all-labelled asked (made .labelled .made) in
+      record {
+        span = span;
+        ids = omega (arith, asked .drawing .small);
+        labels-long = labelled .labels-long;
+        leaves-long = labelled .leaves-long;
+        sizes-long = labelled .sizes-long;
+        roots-long = roots-long;
+        tables-long = omega (arith, asked .tables-long, made .tables .long);
+        outputs-long = asked .outputs-long;
+        six = λ v low one. labelled .six v low;
+        output-nodes = λ i low. asked .output-nodes (getD outputs i 0) (member-of-part number outputs i low (omega (arith, asked .outputs-long)));
+      }
+
+  counted : r .luts ≡ length (lutsIn arrays nodes)
+  counted =
+      luts-counted (made .cover) (m′ .tables)
+      ∙ sym (length-map (lutsBelow (m′ .leaves) (m′ .sizes) (m′ .roots) (m′ .tables) nodes) (listedLut (labelsOf inputs lines)))
+      ∙ sym (ap (λ (l : List Lut). length l) luts-are)
+
+  mapping-is : (table : Table) → table .k ≡ k → table .inputs ≡ inputs → length (table .gates) ≡ nodes - inputs → table .outputs ≡ take number outputs →
+      mappingIn k inputs nodes arrays number (r .depth .depth) ≡ mappingOf table sheet
+  mapping-is table k-is inputs-is gates-is outputs-is =
+      let luts : lutsIn arrays nodes ≡ map (listedLut (labelsOf (table .inputs) lines)) (sheet .luts) =
+      luts-are ∙ ap (λ (n : ℕ). map (listedLut (labelsOf n lines)) (sheet .luts)) (sym inputs-is) in
+      let all : outputsIn arrays number ≡ map (listedOutput (labelsOf (table .inputs) lines)) (table .outputs) =
+      outputs-are ∙ (λ i. map (listedOutput (labelsOf (sym inputs-is i) lines)) (sym outputs-is i)) in
+      λ i. record { k = sym k-is i; inputs = sym inputs-is i; gates = sym gates-is i; luts = luts i; depth = r .depth .depth; outputs = all i }
+
+-- In the paper's numbers, with arrays of 192 entries and more.
+module _ (h : Head) {number : ℕ} {fan count rows outputs order text labels leaves sizes walked met deep area ends next prev ins outs parent roots values tables : List ℕ}
+    {r : Mapping} {m′ : Made} {s′ : Scratch} (asked : ListAsked h number fan count rows outputs order text)
+    (made : MappingMade (h .inputs) (h .inputs + h .gates) (h .k .leaves) fan count rows outputs number (madeOf labels leaves sizes roots values tables)
+    (scratchOf walked met deep area ends next prev ins outs parent) r m′ s′)
+    (map-asked : MapAsked (h .inputs) (h .inputs + h .gates) (h .k .leaves) fan count rows order outputs number (madeOf labels leaves sizes roots values tables)
+    (scratchOf walked met deep area ends next prev ins outs parent)) where
+  pub mapping-asked :
+      Held (h .inputs) (h .inputs + h .gates) (arraysOf (m′ .labels) (m′ .leaves) (m′ .sizes) (m′ .roots) (m′ .tables) outputs) number
+      × ((r .luts ≡ length (lutsIn (arraysOf (m′ .labels) (m′ .leaves) (m′ .sizes) (m′ .roots) (m′ .tables) outputs) (h .inputs + h .gates)))
+      × (room (h .inputs + h .gates) number ≤ length text))
+  mapping-asked =
+      (held map-asked made, (counted map-asked made, omega (arith, asked .few, asked .room, asked .taken .nodes-most)))
+
+  pub taken-listed : {n : ℕ} {after : List ℕ} →
+      Wrote text (listingOf (mappingIn (h .k .leaves) (h .inputs) (h .inputs + h .gates)
+      (arraysOf (m′ .labels) (m′ .leaves) (m′ .sizes) (m′ .roots) (m′ .tables) outputs) number (r .depth .depth))) n after →
+      TakenListed h number fan count rows outputs text n after
+  taken-listed {n} {after} wrote =
+      record {
+        sheet = sheet map-asked made;
+        settled = settled map-asked made;
+        text = λ table is.
+            subst (λ (x : Printed). Wrote text (listingOf x) n after)
+            (mapping-is map-asked made table (is .k) (is .inputs) (omega (arith, is .gates)) (is .outputs-are)) wrote;
+      }

@@ -1,0 +1,33 @@
+-- `report` meets its contract: the line is that of the inspector's reply.
+use mathlib.Core.Path.{refl}
+use Rattle.printing.specs.Filled.{Filled}
+use Rattle.printing.proofs.Fronts.{front}
+use Rattle.printing.proofs.Replies.{reported}
+use borrow.Author.Needs.{needs}
+use Rattle.printing.proofs.report.Statement.{statement}
+use Rattle.printing.proofs.report.Tie as tie
+
+returns : tie.Need-returns
+returns c = front (Filled.short (c .if1 .taken) refl refl)
+
+inspect-requires : tie.Need-inspect-requires
+inspect-requires c κs = search needs
+
+write-reply-requires : tie.Need-write-reply-requires
+write-reply-requires c κs = search needs
+
+same-length : tie.Need-same-length
+same-length c = search needs
+
+returns-2 : tie.Need-returns-2
+returns-2 c = front (reported (c .before .before .before .before .before .if1 .left) (c .before .before .before .before .inspect .ensures) (c .before .before .write-reply .ensures))
+
+pub report-spec : {M : Type 1} → statement M
+report-spec =
+    tie.close
+    (tie.spec
+    returns
+    inspect-requires
+    write-reply-requires
+    same-length
+    returns-2)
