@@ -1,15 +1,18 @@
 -- Marks, one entry at a time: marks of the first entries, and one store more; the entries beyond the nodes stay.
-use Prim.Native.Nat.{ℕ, _+_, _-_, _≤_, _<_}
+use Prim.Native.Nat.{ℕ, _+_, _-_, _≤_, _<_, suc}
 use native.Mathlib.Nat.{not-suc-le-zero}
-use native.Mathlib.Decide.{ℕ-discrete, decLt}
+use native.Mathlib.Decide.{ℕ-discrete}
 use native.Mathlib.Omega.{arith}
 use mathlib.Core.Path.{_≡_, refl, ap, sym, subst, _∙_}
 use mathlib.Core.Logic.{_⊎_, inl, inr, ⊎-elim}
 use mathlib.Core.List.{List}
-use lib.ListN.{length, getD, set, take, drop, length-set, length-take, length-drop, List·getD-eq-default}
-use lib.Seq.{getD-set-same, getD-set-other, getD-take, getD-drop, drop-set-lt, ext-getD}
+use lib.ListN.{length, getD, set, drop, length-set, length-drop}
+use lib.Seq.{getD-set-same, getD-set-other, getD-drop, drop-set-lt, ext-getD}
+use Rattle.theory.specs.Net.{Net}
 use Rattle.walking.specs.Arrays.{Marks}
-use Rattle.area.specs.Area.{Marked}
+pub use Rattle.walking.proofs.Entries.{drop-agrees}
+use Rattle.walking.proofs.Unique.{marks-one}
+use Rattle.area.specs.Area.{Marked, PeakIn, AreaMarked}
 use Rattle.area.specs.Passes.{Mark, IsDeep}
 
 pub mark-same : {P Q : Type 0} {x : ℕ} → (P → Q) → (Q → P) → Mark P x → Mark Q x
@@ -26,11 +29,6 @@ pub marked-same : {nodes : ℕ} {P Q : ℕ → Type 0} {l₀ l : List ℕ} → (
 marked-same there back marked = record { marks = marks-same there back (marked .marks); beyond = marked .beyond }
 
 -- a mark at one node, as marks say it
-pub mark-at : {nodes : ℕ} {P : ℕ → Type 0} {l : List ℕ} → Marks nodes P l → (v : ℕ) → v < nodes → Mark (P v) (getD l v 0)
-mark-at {P = P} {l = l} marks v low =
-    ⊎-elim (λ (e : getD l v 0 ≡ 0). inl (e, λ p. let f = marks .marked v low p in omega arith))
-    (λ (e : getD l v 0 ≡ 1). inr (e, marks .holds v low e)) (marks .bit v low)
-
 -- The first v entries are marks; the rest of a list that was l₀ is as before from `nodes` on.
 pub record Filling (nodes v : ℕ) (P : ℕ → Type 0) (l₀ l : List ℕ) : Type 0 where
   pub size : length l ≡ length l₀
@@ -98,12 +96,6 @@ drop-same n l m e same =
     ext-getD 0 (drop n l) (drop n m) (simp length-drop (ap (λ (x : ℕ). x - n) e))
     (λ i low. getD-drop n l i 0 ∙ same (n + i) (omega arith) ∙ sym (getD-drop n m i 0))
 
-pub drop-agrees : (n : ℕ) (l m : List ℕ) → drop n l ≡ drop n m → (v : ℕ) → n ≤ v → getD l v 0 ≡ getD m v 0
-drop-agrees n l m same v far =
-    let e : n + (v - n) ≡ v = omega arith in
-    ap (λ (w : ℕ). getD l w 0) (sym e) ∙ sym (getD-drop n l (v - n) 0) ∙ ap (λ (x : List ℕ). getD x (v - n) 0) same ∙ getD-drop n m (v - n) 0
-    ∙ ap (λ (w : ℕ). getD m w 0) e
-
 -- What the first pass stores at a node
 
 module _ {inputs gate p v label met : ℕ} where
@@ -142,28 +134,23 @@ bit-low bit = ⊎-elim (λ e. omega arith) (λ e. omega arith) bit
 
 -- two lists that the same promise allows are equal
 pub marked-one : {nodes : ℕ} {P : ℕ → Type 0} {l₀ l m : List ℕ} → length l ≡ length m → Marked nodes P l₀ l → Marked nodes P l₀ m → l ≡ m
-marked-one {nodes} {P} {l₀} {l} {m} size a b = ext-getD 0 l m size (λ v inside. same v (decLt v nodes))
-  where
-    same-mark : (v : ℕ) → v < nodes → Mark (P v) (getD l v 0) → getD l v 0 ≡ getD m v 0
-    same-mark v low (inl (e, none)) =
-        ⊎-elim (λ (f : getD m v 0 ≡ 0). e ∙ sym f) (λ (f : getD m v 0 ≡ 1). absurd (none (b .marks .holds v low f))) (b .marks .bit v low)
-    same-mark v low (inr (e, p)) = e ∙ sym (b .marks .marked v low p)
+marked-one {nodes} {l = l} {m = m} size a b = marks-one nodes l m (a .marks) (b .marks) size (a .beyond ∙ sym (b .beyond))
 
-    same : (v : ℕ) → Dec (v < nodes) → getD l v 0 ≡ getD m v 0
-    same v (yes low) = same-mark v low (mark-at (a .marks) v low)
-    same v (no high) = drop-agrees nodes l m (a .beyond ∙ sym (b .beyond)) v (omega arith)
+-- and so are two outcomes of `mark_area`, and two replies of `peak`
+pub record Same (deep deep′ area area′ ends ends′ : List ℕ) : Type 0 where
+  pub deep-same : deep ≡ deep′
+  pub area-same : area ≡ area′
+  pub ends-same : ends ≡ ends′
 
--- Marks as a function of nodes that is 0 beyond them
+pub area-one : {net : Net} {lab : ℕ → ℕ} {t : ℕ} {deep₀ deep deep′ area₀ area area′ ends₀ ends ends′ : List ℕ} →
+    length deep ≡ length deep′ → length area ≡ length area′ → length ends ≡ length ends′ → AreaMarked net lab t deep₀ deep area₀ area ends₀ ends →
+    AreaMarked net lab t deep₀ deep′ area₀ area′ ends₀ ends′ → Same deep deep′ area area′ ends ends′
+area-one p q r a b =
+    record {
+      deep-same = marked-one p (a .deep-marked) (b .deep-marked);
+      area-same = marked-one q (a .area-marked) (b .area-marked);
+      ends-same = marked-one r (a .ends-marked) (b .ends-marked);
+    }
 
-pub marked-node : {nodes : ℕ} {P : ℕ → Type 0} {l : List ℕ} → Marks nodes P l → (v : ℕ) → getD (take nodes l) v 0 ≡ 1 → (v < nodes) × P v
-marked-node {nodes} {P} {l} marks v e = by-place (decLt v nodes)
-  where
-    by-place : Dec (v < nodes) → (v < nodes) × P v
-    by-place (yes low) = (low, marks .holds v low (sym (getD-take nodes l v 0 low) ∙ e))
-    by-place (no high) =
-        let few : length (take nodes l) ≤ v = simp length-take (omega arith) in
-        let none : getD (take nodes l) v 0 ≡ 0 = List·getD-eq-default (take nodes l) 0 few in
-        absurd (omega arith)
-
-pub node-marked : {nodes : ℕ} {P : ℕ → Type 0} {l : List ℕ} → Marks nodes P l → (v : ℕ) → v < nodes → P v → getD (take nodes l) v 0 ≡ 1
-node-marked {nodes} {l = l} marks v low p = getD-take nodes l v 0 low ∙ marks .marked v low p
+pub peak-one : (fan count : List ℕ) (gate : ℕ) (labels : List ℕ) {p q : ℕ} → PeakIn fan count gate labels p → PeakIn fan count gate labels q → p ≡ q
+peak-one fan count gate labels a b = a 0 (suc gate) (omega arith) ∙ sym (b 0 (suc gate) (omega arith))

@@ -1,13 +1,11 @@
 -- Members of a part of an array, and of the fanins that arrays hold.
-use Prim.Native.Nat.{ℕ, zero, suc, max, _+_, _≤_, _<_}
-use native.Mathlib.Nat.{not-suc-le-zero}
+use Prim.Native.Nat.{ℕ, max, _+_, _≤_, _<_}
 use native.Mathlib.Omega.{arith}
-use mathlib.Core.Path.{_≡_, refl, ap, sym, subst, _∙_}
+use mathlib.Core.Path.{_≡_, ap, sym, subst, _∙_}
 use mathlib.Core.Logic.{_⊎_, inl, inr, ⊎-elim}
-use mathlib.Core.List.{List, [], _∷_, _++_, map, List·Memᴰ, List·Memᴰ·head, List·Memᴰ·tail, List·Memᴰ·append-cases, List·Memᴰ·eq-of-singleton, Memᴰ·append-left, Memᴰ·append-right, Memᴰ·cast}
+use mathlib.Core.List.{List, [], _∷_, _++_, map, List·Memᴰ, List·Memᴰ·head, List·Memᴰ·append-cases, List·Memᴰ·eq-of-singleton, Memᴰ·append-left, Memᴰ·append-right, Memᴰ·cast}
 use lib.ListN.{length, getD, take, drop, length-take, length-drop}
 use lib.Seq.{getD-take, getD-drop}
-use borrow.Author.Tests.{lt-ltb}
 use Rattle.theory.specs.Lists.{greatest}
 use Rattle.theory.specs.Evidence.{peak}
 use Rattle.theory.proofs.Walks.{fanin-node}
@@ -15,12 +13,8 @@ use Rattle.drawing.specs.Table.{netIn}
 use Rattle.drawing.proofs.Digits.{take-more}
 use Rattle.walking.specs.Arrays.{Drawn}
 use Rattle.walking.specs.Listing.{faninsAt}
+pub use Rattle.walking.proofs.Entries.{member-at, fanins-in}
 use Rattle.area.specs.Area.{labelIn, Fed, PeakIn}
-
-pub member-at : (l : List ℕ) (i : ℕ) → i < length l → List·Memᴰ (getD l i 0) l
-member-at [] i low = absurd (not-suc-le-zero low)
-member-at (x ∷ l) zero low = List·Memᴰ·head refl
-member-at (x ∷ l) (suc i) low = List·Memᴰ·tail (member-at l i (omega arith))
 
 module _ (s : List ℕ) (at m : ℕ) (fits : at + m ≤ length s) where
   part-length : length (take m (drop at s)) ≡ m
@@ -45,10 +39,6 @@ module _ (s : List ℕ) (at m : ℕ) (fits : at + m ≤ length s) where
       (List·Memᴰ·append-cases (take i (drop at s)) (subst (List·Memᴰ v) (take-more s at i (omega arith)) m))
 
 -- Fanins in the arrays
-
-pub fanins-in : (inputs nodes : ℕ) (fan count : List ℕ) (v : ℕ) → v < nodes → netIn inputs nodes fan count .fanins v ≡ faninsAt fan count v
-unfolding netIn
-fanins-in inputs nodes fan count v low = rw (lt-ltb v nodes low)
 
 pub fed-in : {inputs nodes k : ℕ} {fan count : List ℕ} → Drawn inputs nodes k fan count → (v : ℕ) → v < nodes → (size : ℕ) → nodes ≤ size →
     Fed fan count v size

@@ -2,7 +2,7 @@
 use Prim.Native.Nat.{ℕ, _+_, _*_, _≤_, _<_}
 use mathlib.Core.Path.{_≡_}
 use mathlib.Core.List.{List, List·Memᴰ}
-use lib.ListN.{length, getD, take, drop}
+use lib.ListN.{length, getD, drop}
 use Rattle.theory.specs.Net.{Net, Gate}
 use Rattle.theory.specs.Walk.{Behind}
 use Rattle.theory.specs.Evidence.{peak, InD}

@@ -12,8 +12,8 @@ use lib.Dec.{eqb}
 use Rattle.theory.specs.Net.{Net, Gate, Input}
 use Rattle.theory.specs.Cover.{Depth}
 use Rattle.theory.proofs.Walks.{no-loop}
-use Rattle.theory.proofs.DecideDrawing.{Drawing, Claim, Lut, Case, Right, Mapped, undrawn}
-use Rattle.theory.proofs.DecideDrawing as theory
+use Rattle.theory.specs.Cases.{Drawing, Claim, Lut, Case, Right, Mapped, undrawn}
+use Rattle.theory.specs.Cases as theory
 use Rattle.drawing.specs.declared.Verdict.the-variants.{Sound}
 use Rattle.drawing.specs.Table.{Table, netOf, tablesOf}
 use Rattle.drawing.specs.Fields.{headG}

@@ -3,7 +3,8 @@ use mathlib.Core.Path.{_≡_, refl, subst}
 use mathlib.Core.Bool.{true}
 use mathlib.Core.List.{map, flatMap, List·Memᴰ}
 use Rattle.theory.proofs.Tests.{decides-itself, decides-every, every}
-use Rattle.theory.proofs.Drawings.{cases, cases-right}
+use Rattle.theory.specs.Drawings.{cases}
+use Rattle.theory.proofs.Drawings.{cases-right}
 use Rattle.drawing.specs.Bytes.{highFirst, numberAt, someFrom}
 use Rattle.drawing.specs.Fields.{headVerdict, gateVerdict, outputVerdict}
 use Rattle.drawing.specs.Reading.{gatesFrom, outputsFrom, found}

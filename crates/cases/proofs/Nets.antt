@@ -9,8 +9,8 @@ use borrow.Author.Tests.{lt-ltb, le-ltb}
 use lib.ListN.{length, getD, replicate, length-map, length-append, length-replicate, getD-replicate, List·getD-append, List·getD-map}
 use lib.Seq.{getD-append-add}
 use lib.Dec.{ltb}
-use Rattle.theory.proofs.DecideDrawing.{Drawing, undrawn, ofGate}
-use Rattle.theory.proofs.DecideDrawing as theory
+use Rattle.theory.specs.Cases.{Drawing, undrawn, ofGate}
+use Rattle.theory.specs.Cases as theory
 use Rattle.drawing.specs.Table.{lineOf, netOf, tablesOf}
 use Rattle.cases.specs.Cases.{gateLine, tableFor}
 

@@ -9,17 +9,16 @@ use borrow.Author.Tests.{eqb-true, eq-eqb}
 use lib.ListN.{length, replicate, length-map, length-append, length-replicate}
 use lib.Dec.{eqb}
 use Rattle.theory.specs.Net.{Net, Gate}
-use Rattle.theory.specs.Lists.{greatest}
+use Rattle.theory.specs.Lists.{greatest, isMember}
 use Rattle.theory.specs.Cover.{Wanted, Label}
 use Rattle.theory.specs.Evidence.{MappersCut, Owes}
 use Rattle.theory.specs.Lookup.{ConeTable}
-use Rattle.theory.proofs.Tests.{isMember}
 use Rattle.theory.proofs.Ranks.{by-rank, common-bound}
 use Rattle.theory.proofs.Walks.{met-rank}
 use Rattle.theory.proofs.Rules.{lines-are-labels}
 use Rattle.theory.proofs.MappersCovers.{same-test}
-use Rattle.theory.proofs.DecideDrawing.{Drawing, Claim, noClaim, Lut, rootsOf, tableAt, undrawn, Mapped}
-use Rattle.theory.proofs.DecideDrawing as theory
+use Rattle.theory.specs.Cases.{Drawing, Claim, noClaim, Lut, rootsOf, tableAt, undrawn, Mapped}
+use Rattle.theory.specs.Cases as theory
 use Rattle.covering.specs.Covers.{Needed}
 use Rattle.sheet.specs.Sheet as sheet
 use Rattle.sheet.specs.Rules.{lineOfNode, isListed, leavesListed, tableListed, PathsKept}

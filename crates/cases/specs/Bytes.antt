@@ -1,7 +1,7 @@
 -- The paper's small drawings P1 to P9 as bytes, a field of the gate table on a line, in the order of the theory's table of what the paper says of
 -- them; and the two joined to one table of cases. "Where not named, K is 2, I is 1 and the one output is the last gate."
 use mathlib.Core.List.{List, [], _∷_, zipWith}
-use Rattle.theory.proofs.Drawings.{cases}
+use Rattle.theory.specs.Drawings.{cases}
 use Rattle.cases.specs.Cases.{Given, ByteCase}
 
 -- "P1. K=3, I=4; 4=AND(0,1), 5=AND(2,3), 6=OR(4,5); output 6. Labels 1, 1, 2; evidence at 6 has four paths of one input each. The lister reads

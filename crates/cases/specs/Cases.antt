@@ -8,7 +8,7 @@ use mathlib.Core.List.{List, [], _∷_, map, List·Memᴰ}
 use lib.ListN.{length}
 use Rattle.theory.specs.Net.{Gate, Input}
 use Rattle.theory.specs.Cover.{Depth}
-use Rattle.theory.proofs.DecideDrawing.{Drawn, Drawing, Claim, noClaim, Lut, Case, ofGate}
+use Rattle.theory.specs.Cases.{Drawn, Drawing, Claim, noClaim, Lut, Case, ofGate}
 use Rattle.drawing.specs.declared.Head.{Head}
 use Rattle.drawing.specs.Table.{GateLine, Table, netOf, tablesOf}
 use Rattle.drawing.specs.Reading.{tableOf}

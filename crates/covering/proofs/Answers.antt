@@ -9,11 +9,11 @@ use lib.ListN.{length, getD, take}
 use lib.Seq.{ext-getD}
 use Rattle.theory.proofs.Cones.{cone-table-only}
 use Rattle.drawing.specs.Table.{netIn, tablesIn}
-use Rattle.walking.specs.Arrays.{Marks}
 use Rattle.walking.proofs.Orders.{drawn-ranked}
+use Rattle.walking.proofs.Unique.{marks-inside}
 use Rattle.covering.specs.Scratch.{Cleared}
 use Rattle.covering.specs.Cones.{ConeAsked, ConeAnswered}
-use Rattle.covering.specs.Covers.{isRoot, lutCount, CoverMade}
+use Rattle.covering.specs.Covers.{isRoot, lutCount, CoverMade, GateAmong, GatesMarked}
 
 -- two lists that agree at the nodes, and beyond them with a third, are equal
 pub agree : (nodes : ℕ) (before a b : List ℕ) → length a ≡ length before → length b ≡ length before →
@@ -39,17 +39,19 @@ module _ (inputs nodes : ℕ) (fan count rows order : List ℕ) (t : ℕ) (leave
     cleared-once nodes before after after′ (p .values) (q .values),
   )
 
-marks-once : {nodes : ℕ} {P : ℕ → Type 0} {a b : List ℕ} → Marks nodes P a → Marks nodes P b → (v : ℕ) → v < nodes → getD a v 0 ≡ getD b v 0
-marks-once {a = a} {b = b} ma mb v low = by (ma .bit v low) (mb .bit v low)
-  where
-    by : (getD a v 0 ≡ 0) ⊎ (getD a v 0 ≡ 1) → (getD b v 0 ≡ 0) ⊎ (getD b v 0 ≡ 1) → getD a v 0 ≡ getD b v 0
-    by (inl x) (inl y) = x ∙ sym y
-    by (inr x) (inr y) = x ∙ sym y
-    by (inl x) (inr y) = let z = ma .marked v low (mb .holds v low y) in absurd (omega arith)
-    by (inr x) (inl y) = let z = mb .marked v low (ma .holds v low x) in absurd (omega arith)
-
 pub cover-answer-once : (inputs nodes : ℕ) (leaves sizes outputs before : List ℕ) {after after′ : List ℕ} {r r′ : ℕ} →
     CoverMade inputs nodes leaves sizes outputs before r after → CoverMade inputs nodes leaves sizes outputs before r′ after′ → (r ≡ r′) × (after ≡ after′)
 cover-answer-once inputs nodes leaves sizes outputs before {after} {after′} p q =
-    let same : after ≡ after′ = agree nodes before after after′ (p .long) (q .long) (marks-once (p .marks) (q .marks)) (p .beyond) (q .beyond) in
+    let same : after ≡ after′ = agree nodes before after after′ (p .long) (q .long) (marks-inside (p .marks) (q .marks)) (p .beyond) (q .beyond) in
     (p .count ∙ ap (λ (l : List ℕ). lutCount (isRoot nodes l) nodes) same ∙ sym (q .count), same)
+
+pub gates-marked-once : {ids : List ℕ} {at many inputs : ℕ} {before after after′ : List ℕ} → GatesMarked ids at many inputs before after →
+    GatesMarked ids at many inputs before after′ → after ≡ after′
+gates-marked-once {ids} {at} {many} {inputs} {before} {after} {after′} p q =
+    ext-getD 0 after after′ (p .long ∙ sym (q .long)) (λ v _. by v (p .others v) (q .others v))
+  where
+    by : (v : ℕ) → (getD after v 0 ≡ getD before v 0) ⊎ GateAmong ids at many inputs v →
+        (getD after′ v 0 ≡ getD before v 0) ⊎ GateAmong ids at many inputs v → getD after v 0 ≡ getD after′ v 0
+    by v (inl x) (inl y) = x ∙ sym y
+    by v (inl x) (inr gate) = p .marked v gate ∙ sym (q .marked v gate)
+    by v (inr gate) other = p .marked v gate ∙ sym (q .marked v gate)

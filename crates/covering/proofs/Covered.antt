@@ -1,9 +1,9 @@
 -- The mapping from arrays: where each gate has a cut, the LUTs that `cover` marks are a cover; a root's depth is its label, the cover's depth is
 -- what `depth` answers, and no cover is shallower; and with the tables of their cones the LUTs compute every output as the gates do.
-use Prim.Native.Nat.{ℕ, suc, _+_, _-_, _≤_, _<_}
+use Prim.Native.Nat.{ℕ, suc, _-_, _≤_, _<_}
 use native.Mathlib.Decide.{decLt}
 use native.Mathlib.Omega.{arith}
-use mathlib.Core.Path.{_≡_, refl, sym, _∙_}
+use mathlib.Core.Path.{_≡_, sym, _∙_}
 use mathlib.Core.Bool.{Bool, true}
 use mathlib.Core.Logic.{inr}
 use mathlib.Core.List.{List, map, List·Memᴰ}
@@ -13,11 +13,10 @@ use borrow.Author.Tests.{eqb-true, eq-eqb}
 use Rattle.theory.specs.Net.{Gate}
 use Rattle.theory.specs.Sound.{Ranked}
 use Rattle.theory.specs.Lists.{greatest}
-use Rattle.theory.specs.Walk.{Cut}
+use Rattle.theory.specs.Walk.{Cut, Met}
 use Rattle.theory.specs.Values.{Obeys}
 use Rattle.theory.specs.Cover.{Luts, Wanted, Cover, Depth, Depths}
 use Rattle.theory.specs.Lookup.{ConeTable, ObeysLuts}
-use Rattle.theory.proofs.Walks.{met-node}
 use Rattle.theory.proofs.FlowMap.{Labels}
 use Rattle.theory.proofs.MappersCovers.{no-cover-shallower, depth-is-label, cover-depth-is-label, roots-are-one}
 use Rattle.theory.proofs.Computes.{luts-compute-outputs}
@@ -27,7 +26,7 @@ use Rattle.walking.specs.Listing.{faninsAt}
 use Rattle.walking.proofs.Entries.{fanins-in}
 use Rattle.walking.proofs.Orders.{drawn-ranked}
 use Rattle.covering.specs.Covers.{CutsIn, Chosen, Needed, isRoot, lutsIn}
-use Rattle.covering.proofs.Orders.{gate-of, gate-above, gate-below, order-gate, met-place}
+use Rattle.covering.proofs.Orders.{gate-below, gate-there, order-of-leaves, leaf-node}
 
 -- Marks as roots
 
@@ -55,49 +54,15 @@ module _ (inputs nodes k : ℕ) (fan count order leaves sizes : List ℕ) (drawn
   ranked : Ranked (netIn inputs nodes fan count)
   ranked = drawn-ranked drawn ordered
 
-  -- gates are the same in the net and in that of the cuts
-  gate-there : {v : ℕ} → Gate (netIn inputs nodes fan count) v → Gate (netIn inputs nodes leaves sizes) v
-  gate-there gate = gate-of inputs nodes leaves sizes (gate-above inputs nodes fan count gate) (gate-below inputs nodes fan count gate)
-
-  gate-back : {v : ℕ} → Gate (netIn inputs nodes leaves sizes) v → Gate (netIn inputs nodes fan count) v
-  gate-back gate = gate-of inputs nodes fan count (gate-above inputs nodes leaves sizes gate) (gate-below inputs nodes leaves sizes gate)
-
   leaves-in : {g : ℕ} → Gate (netIn inputs nodes fan count) g → netIn inputs nodes leaves sizes .fanins g ≡ faninsAt leaves sizes g
   leaves-in {g} gate = fanins-in inputs nodes leaves sizes g (gate-below inputs nodes fan count gate)
 
   cut-at : {g : ℕ} → Gate (netIn inputs nodes fan count) g → Cut (netIn inputs nodes fan count) k g (netIn inputs nodes leaves sizes .fanins g)
   cut-at {g} gate = rw (leaves-in gate) (chosen .cuts g gate)
 
-  -- The cuts can be covered: a leaf is met, so it comes before its gate.
-
-  same-size : (n : ℕ) → netIn inputs nodes fan count .inputs + n ≡ netIn inputs nodes fan count .nodes →
-      netIn inputs nodes leaves sizes .inputs + n ≡ netIn inputs nodes leaves sizes .nodes
-  unfolding netIn
-  same-size n e = e
-
-  order-of-cuts : Ordered (netIn inputs nodes leaves sizes) (take (nodes - inputs) order)
-  order-of-cuts =
-      record {
-        size = same-size (length (take (nodes - inputs) order)) (ordered .size);
-        gates = λ v m. gate-there (ordered .gates v m);
-        all = λ v gate. ordered .all v (gate-back gate);
-        once = ordered .once;
-        before = before;
-      }
-    where
-      before : (i u : ℕ) → i < length (take (nodes - inputs) order) →
-          List·Memᴰ u (netIn inputs nodes leaves sizes .fanins (getD (take (nodes - inputs) order) i 0)) → Gate (netIn inputs nodes leaves sizes) u →
-          (j : ℕ) × (j < i) × (getD (take (nodes - inputs) order) j 0 ≡ u)
-      before i u inside m gate =
-          let low : i < nodes - inputs = omega (arith, length-take (nodes - inputs) order) in
-          let here = order-gate (nodes - inputs) order order-long ordered i low in
-          let leaf = rw (getD-take (nodes - inputs) order i 0 low) at m in
-          let (j, less, e) = met-place (nodes - inputs) order order-long ordered (drawn .bounded) i low refl (cut-at here .met u leaf) (gate-back gate) in
-          (j, less, getD-take (nodes - inputs) order j 0 (omega arith) ∙ e)
-
-  cut-node : {g v : ℕ} → Gate (netIn inputs nodes fan count) g → List·Memᴰ v (netIn inputs nodes leaves sizes .fanins g) → v < nodes
-  unfolding netIn
-  cut-node {g} {v} gate m = met-node (drawn .bounded) (gate .below) (cut-at gate .met v m)
+  leaf-met : (g u : ℕ) → Gate (netIn inputs nodes fan count) g → List·Memᴰ u (netIn inputs nodes leaves sizes .fanins g) →
+      Met (netIn inputs nodes fan count) (netIn inputs nodes leaves sizes .fanins g) g u
+  leaf-met g u gate m = cut-at gate .met u m
 
   net-span : inputs ≤ nodes
   unfolding netIn
@@ -110,9 +75,10 @@ module _ (inputs nodes k : ℕ) (fan count order leaves sizes : List ℕ) (drawn
         order-long = order-long;
         leaves-long = chosen .leaves-long;
         sizes-long = chosen .sizes-long;
-        six = λ g gate. chosen .six g (gate-back gate);
-        leaf-nodes = λ g gate v m. cut-node (gate-back gate) m;
-        ordered = order-of-cuts;
+        six = λ g gate. chosen .six g (gate-there inputs nodes leaves sizes fan count gate);
+        leaf-nodes = λ g gate v m.
+            leaf-node inputs nodes k fan count order leaves sizes (drawn .bounded) order-long ordered (λ r. netIn inputs nodes leaves sizes .fanins r) leaf-met (gate-there inputs nodes leaves sizes fan count gate) m;
+        ordered = order-of-leaves inputs nodes k fan count order leaves sizes (drawn .bounded) order-long ordered (λ r. netIn inputs nodes leaves sizes .fanins r) leaf-met;
       }
 
   -- The cover
@@ -125,8 +91,8 @@ module _ (inputs nodes k : ℕ) (fan count order leaves sizes : List ℕ) (drawn
     needed-root {r} n gate = let low = gate-below inputs nodes fan count gate in marked-root nodes root r low (marks .marked r low n)
 
     needed-gate : {r : ℕ} → Needed (netIn inputs nodes leaves sizes) outputs r → Gate (netIn inputs nodes fan count) r
-    needed-gate (Needed.output m gate) = gate-back gate
-    needed-gate (Needed.leaf n m gate) = gate-back gate
+    needed-gate (Needed.output m gate) = gate-there inputs nodes leaves sizes fan count gate
+    needed-gate (Needed.leaf n m gate) = gate-there inputs nodes leaves sizes fan count gate
 
     root-wanted : {r : ℕ} → Needed (netIn inputs nodes leaves sizes) outputs r → Wanted outputs (lutsIn inputs nodes leaves sizes root) r
     root-wanted (Needed.output m gate) = Wanted.output m
@@ -134,8 +100,8 @@ module _ (inputs nodes k : ℕ) (fan count order leaves sizes : List ℕ) (drawn
 
     wanted-needed : {v : ℕ} → Gate (netIn inputs nodes fan count) v → Wanted outputs (lutsIn inputs nodes leaves sizes root) v →
         Needed (netIn inputs nodes leaves sizes) outputs v
-    wanted-needed gate (Wanted.output m) = Needed.output m (gate-there gate)
-    wanted-needed gate (Wanted.leaf r at m) = Needed.leaf (root-needed at) m (gate-there gate)
+    wanted-needed gate (Wanted.output m) = Needed.output m (gate-there inputs nodes fan count leaves sizes gate)
+    wanted-needed gate (Wanted.leaf r at m) = Needed.leaf (root-needed at) m (gate-there inputs nodes fan count leaves sizes gate)
 
     -- "A cover is a set of LUTs, each a root gate with a cut, .."
     pub marks-cover : Cover (netIn inputs nodes fan count) k outputs (lutsIn inputs nodes leaves sizes root)

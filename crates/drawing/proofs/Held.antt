@@ -3,7 +3,7 @@
 use Prim.Native.Nat.{ℕ, zero, suc, _+_, _*_, _-_, _≤_, _<_}
 use mathlib.Core.Path.{_≡_, refl, ap, sym, subst, fun-ext, _∙_}
 use mathlib.Core.Bool.{Bool, true, false, cond}
-use mathlib.Core.List.{List, [], _∷_, map, List·Memᴰ}
+use mathlib.Core.List.{List, [], _∷_, map}
 use mathlib.Core.Logic.{_⊎_, ⊎-elim}
 use native.Mathlib.Nat.{add-zero, le-of-suc-le-suc, not-suc-le-zero}
 use native.Mathlib.Omega.{arith}
@@ -11,12 +11,12 @@ use borrow.Author.Tests.{lt-ltb, le-ltb, ltb-true, ltb-false}
 use lib.Dec.{ltb}
 use lib.ListN.{length, getD, set, take, drop, replicate, length-set, length-take, length-drop, length-replicate, getD-replicate, length-map, List·getD-map, List·getD-eq-default}
 use lib.Seq.{sets, length-sets, getD-set-same, getD-set-other, getD-take, getD-drop, ext-getD, sets-eq, take-at}
-use Rattle.theory.specs.Net.{Net, Gate}
+use Rattle.theory.specs.Net.{Gate}
 use Rattle.theory.specs.Sound.{Bounded}
 use Rattle.drawing.specs.declared.Verdict.{Verdict}
 use Rattle.drawing.specs.declared.Verdict.the-variants.{Sound, Refused}
 use Rattle.drawing.specs.Table.{GateLine, Table, noGate, lineOf, netOf, tablesOf, netIn, tablesIn}
-use Rattle.drawing.specs.Fields.{headK, headI, headG, headVerdict}
+use Rattle.drawing.specs.Fields.{headK, headI, headVerdict}
 use Rattle.drawing.specs.Reading.{Lines, Arrays, found, afterHead, nodesOf, tableOf, enough, withInputs, putGate, putGates, filled}
 use Rattle.drawing.proofs.Verdicts.{not-sound}
 use Rattle.drawing.proofs.SoundTables.{SoundLine, SoundLines, table-sound}

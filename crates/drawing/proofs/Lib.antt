@@ -4,6 +4,7 @@ pub mod Numbers
 pub mod Verdicts
 pub mod SoundFields
 pub mod SoundTables
+pub mod Places
 pub mod Stores
 pub mod Filled
 pub mod Wholes

@@ -1,5 +1,5 @@
 -- The numbers of refusals.
-use Prim.Native.Nat.{ℕ, _≤_}
+use Prim.Native.Nat.{_≤_}
 use native.Mathlib.Omega.{arith}
 use Rattle.drawing.specs.declared.Refusal.{Refusal}
 use Rattle.drawing.specs.declared.Refusal.the-variants.{Torn, Tag, Length, Range, Rows, Outputs}

@@ -7,8 +7,7 @@ use native.Mathlib.Omega.{arith}
 use borrow.Author.Tests.{ltb-false, leb-false, eqb-true, not-false}
 use lib.ListN.{length, getD}
 use lib.Dec.{ltb, eqb}
-use Rattle.drawing.specs.declared.Verdict.{Verdict}
-use Rattle.drawing.specs.declared.Verdict.the-variants.{Sound, Refused}
+use Rattle.drawing.specs.declared.Verdict.the-variants.{Sound}
 use Rattle.drawing.specs.Bytes.{lengthAt, valueAt, someFrom}
 use Rattle.drawing.specs.Fields.{frameRules, headRules, headVerdict, headK, headI, headG, gateRules, gateVerdict, gateM, gateIds, gateTable, outputRules, outputVerdict, outputId}
 use Rattle.drawing.proofs.Verdicts.{none-holds}

@@ -1,24 +1,22 @@
 -- What a table that reads whole is: as many gates as its head says, each within the paper's numbers, and 1 to 64 outputs that are nodes.
 -- By induction along the reading: each line comes from a field that was ruled sound.
-use Prim.Native.Nat.{ℕ, zero, suc, _+_, _-_, _^_, _≤_, _<_}
+use Prim.Native.Nat.{ℕ, zero, suc, _+_, _^_, _≤_, _<_}
 use mathlib.Core.Path.{_≡_, refl, ap, sym, subst, _∙_}
-use mathlib.Core.Bool.{Bool, true, false, cond, _||_}
+use mathlib.Core.Bool.{Bool, true, false, cond}
 use mathlib.Core.List.{List, [], _∷_, List·Memᴰ}
 use mathlib.Core.Logic.{⊎-elim}
 use native.Mathlib.Omega.{arith}
-use borrow.Author.Tests.{leb-false, eqb-true, eqb-false}
+use borrow.Author.Tests.{leb-false}
 use lib.Dec.{eqb, leb}
 use lib.ListN.{length, length-take, length-drop}
 use Rattle.drawing.specs.declared.Head.{Head}
-use Rattle.drawing.specs.declared.Refusal.{Refusal}
 use Rattle.drawing.specs.declared.Refusal.the-variants.{Outputs}
 use Rattle.drawing.specs.declared.Verdict.{Verdict}
 use Rattle.drawing.specs.declared.Verdict.the-variants.{Sound, Refused}
-use Rattle.drawing.specs.declared.Reading.{Reading}
-use Rattle.drawing.specs.declared.Reading.the-variants.{Whole, Lent, Refused as RefusedTable}
+use Rattle.drawing.specs.declared.Reading.the-variants.{Whole, Lent}
 use Rattle.drawing.specs.Bytes.{lengthAt, valueAt, someFrom}
 use Rattle.drawing.specs.Table.{GateLine}
-use Rattle.drawing.specs.Fields.{headVerdict, headK, headI, headG, gateM, gateIds, gateAt, gateVerdict, outputId, outputVerdict}
+use Rattle.drawing.specs.Fields.{headVerdict, headK, headG, gateM, gateIds, gateAt, gateVerdict, outputId, outputVerdict}
 use Rattle.drawing.specs.Reading.{GatesFound, gatesFrom, withGate, OutputsFound, outputsFrom, outputsAt, withOutput, noMore, Found, found, gatesOf, nodesOf, headOf, afterHead, afterGates, Arrays, enough, replyOf, reading}
 use Rattle.drawing.proofs.Verdicts.{not-sound}
 use Rattle.drawing.proofs.SoundFields.{neither, SoundHead, head-sound, SoundGate, gate-sound, output-sound}

@@ -1,6 +1,6 @@
 -- Stores one after the other are a run of stores, and a run keeps the length.
-use Prim.Native.Nat.{ℕ, zero, suc, _+_, _<_, _≤_}
-use mathlib.Core.Path.{_≡_, refl, ap, sym, _∙_}
+use Prim.Native.Nat.{ℕ, suc, _+_, _<_}
+use mathlib.Core.Path.{_≡_, ap, sym, _∙_}
 use mathlib.Core.List.{List, [], _∷_, _++_}
 use native.Mathlib.Nat.{add-zero, suc-add, add-suc}
 use native.Mathlib.Omega.{arith}
@@ -8,11 +8,15 @@ use lib.ListN.{length, getD, set, take, drop, replicate, length-take, length-dro
 use lib.Seq.{sets}
 use Rattle.drawing.proofs.Digits.{take-more}
 
+-- a run of stores behind another
+pub sets-append : (l : List ℕ) (i : ℕ) (xs ys : List ℕ) → sets (sets l i xs) (i + length xs) ys ≡ sets l i (xs ++ ys)
+sets-append l i [] ys = ap (λ (j : ℕ). sets l j ys) (add-zero i)
+sets-append l i (x ∷ xs) ys =
+    ap (λ (j : ℕ). sets (sets (set l i x) (suc i) xs) j ys) (add-suc i (length xs) ∙ sym (suc-add i (length xs)))
+    ∙ sets-append (set l i x) (suc i) xs ys
+
 pub sets-more : (l : List ℕ) (i : ℕ) (vs : List ℕ) (v : ℕ) → set (sets l i vs) (i + length vs) v ≡ sets l i (vs ++ (v ∷ []))
-sets-more l i [] v = ap (λ (j : ℕ). set l j v) (add-zero i)
-sets-more l i (a ∷ vs) v =
-    ap (λ (j : ℕ). set (sets (set l i a) (suc i) vs) j v) (add-suc i (length vs) ∙ sym (suc-add i (length vs)))
-    ∙ sets-more (set l i a) (suc i) vs v
+sets-more l i vs v = sets-append l i vs (v ∷ [])
 
 -- one more byte of a part is stored behind the others
 pub sets-of-part :

@@ -1,5 +1,5 @@
 -- A rule that holds at each entry of a table, from one test over the whole of it that antt computes.
-use mathlib.Core.Path.{_≡_, _∙_, subst, sym}
+use mathlib.Core.Path.{_∙_, subst, sym}
 use mathlib.Core.Bool.{Bool, true, false, _&&_}
 use mathlib.Core.List.{List, [], _∷_}
 use Prim.Native.Nat.{ℕ, zero, suc, _+_, _<_}

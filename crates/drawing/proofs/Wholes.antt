@@ -10,7 +10,6 @@ use lib.Dec.{leb}
 use lib.Seq.{sets}
 use Rattle.drawing.specs.declared.Head.{Head}
 use Rattle.drawing.specs.declared.Refusal.{Refusal}
-use Rattle.drawing.specs.declared.Verdict.{Verdict}
 use Rattle.drawing.specs.declared.Verdict.the-variants.{Sound, Refused}
 use Rattle.drawing.specs.declared.Reading.{Reading}
 use Rattle.drawing.specs.declared.Reading.the-variants.{Whole, Lent, Refused as RefusedTable}

@@ -1,10 +1,9 @@
 -- The fields of a gate table, and what each is refused for.
 use Prim.Native.Nat.{ℕ, _+_, _-_, _^_}
-use mathlib.Core.Bool.{Bool, true, false, not, _||_}
+use mathlib.Core.Bool.{Bool, false, not, _||_}
 use mathlib.Core.List.{List, [], _∷_, _++_}
 use lib.ListN.{length, getD, take, drop}
 use lib.Dec.{ltb, leb, eqb}
-use Rattle.drawing.specs.declared.Refusal.{Refusal}
 use Rattle.drawing.specs.declared.Refusal.the-variants.{Torn, Tag, Length, Range, Rows, Outputs}
 use Rattle.drawing.specs.declared.Verdict.{Verdict}
 use Rattle.drawing.specs.declared.Verdict.the-variants.{Sound, Refused}

@@ -10,7 +10,7 @@ use Rattle.drawing.specs.declared.filling.Ended.{Ended}
 use Rattle.drawing.specs.declared.filling.Ended.the-variants.{At, RefusedFor}
 use Rattle.drawing.specs.Bytes.{lengthAt, valueAt}
 use Rattle.drawing.specs.Fields.{gateM, gateAt, gateVerdict}
-use Rattle.drawing.specs.Reading.{Lines, GatesFound, gatesFrom, OutputsFound, outputsFrom, outputsAt, putGate, putGates}
+use Rattle.drawing.specs.Reading.{Lines, gatesFrom, OutputsFound, putGate, putGates}
 
 abbrev pub endOf : Verdict → ℕ → Ended
 endOf Sound next = At next

@@ -1,14 +1,12 @@
 -- Reading a gate table, and what the lent arrays hold after it. "Order: one head, G gates, then outputs to the end." "Fields go left to right and the first fault is the reply."
 use Prim.Native.Nat.{ℕ, zero, suc, _+_, _*_}
 use mathlib.Core.Path.{_≡_}
-use mathlib.Core.Bool.{Bool, true, false, cond, _&&_}
-use mathlib.Core.List.{List, [], _∷_, _++_, map}
+use mathlib.Core.Bool.{Bool, cond, _&&_}
+use mathlib.Core.List.{List, [], _∷_}
 use lib.ListN.{length, set, replicate}
 use lib.Seq.{sets}
 use lib.Dec.{leb, eqb}
-use Rattle.drawing.specs.declared.CutSize.{CutSize}
 use Rattle.drawing.specs.declared.Head.{Head}
-use Rattle.drawing.specs.declared.Refusal.{Refusal}
 use Rattle.drawing.specs.declared.Refusal.the-variants.{Outputs}
 use Rattle.drawing.specs.declared.Verdict.{Verdict}
 use Rattle.drawing.specs.declared.Verdict.the-variants.{Sound, Refused}

@@ -1,5 +1,4 @@
 -- "The first fault is the reply": lists of rules in the paper's order.
-use mathlib.Core.Path.{_≡_}
 use mathlib.Core.Bool.{Bool, true, false, cond}
 use mathlib.Core.List.{List, [], _∷_}
 

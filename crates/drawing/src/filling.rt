@@ -12,7 +12,7 @@ ghost use mathlib.Core.Path.{_≡_};
 ghost use Prim.Native.Nat.{_+_, _*_, _≤_, _<_};
 ghost use lib.ListN.{length, take, drop, replicate};
 ghost use lib.Seq.{sets};
-ghost use Rattle.drawing.specs.Reading.{linesOf, putGate, outputsFrom, outputsAt};
+ghost use Rattle.drawing.specs.Reading.{linesOf, putGate, outputsAt};
 ghost use Rattle.drawing.specs.Fields.{gateAt};
 ghost use Rattle.drawing.specs.Filling.{GateFits, GateTurn, GateRead, GatesFit, GatesRead, OutputsRead};
 

@@ -2,6 +2,7 @@
 pub mod bytes;
 mod fields;
 mod filling;
+pub mod refusals;
 
 use crate::filling::Ended;
 ghost use mathlib.Core.Path.{_≡_};

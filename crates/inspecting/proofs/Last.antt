@@ -1,8 +1,7 @@
 -- Passes three and four together, from arrays.
-use Prim.Native.Nat.{ℕ, _+_, _-_, _≤_, _<_}
-use native.Mathlib.Omega.{arith}
-use mathlib.Core.Path.{_≡_, refl, ap, sym, subst, _∙_}
-use mathlib.Core.Bool.{Bool, true}
+use Prim.Native.Nat.{ℕ, _≤_}
+use mathlib.Core.Path.{_≡_, refl, subst}
+use mathlib.Core.Bool.{true}
 use mathlib.Core.List.{List, [], _∷_, _++_, map, flatMap, List·Memᴰ, List·Memᴰ·head, List·Memᴰ·tail}
 use lib.ListN.{length, getD, take}
 use Rattle.theory.specs.Net.{Net}
@@ -11,21 +10,19 @@ use Rattle.theory.specs.Walk.{Cut}
 use Rattle.theory.specs.Cover.{Luts}
 use Rattle.drawing.specs.declared.Node.{Node}
 use Rattle.drawing.specs.Table.{netIn, tablesIn}
-use Rattle.walking.proofs.Listings.{drawn-span}
 use Rattle.covering.specs.Covers.{lutsIn}
 use Rattle.sheet.specs.Sheet.{Sheet}
-use Rattle.sheet.specs.Rules.{Rule, Found, FirstBroken, Keeps, isListed, leavesListed, tableListed, lutsOf, lutRules, labelsOf, gates}
+use Rattle.sheet.specs.Rules.{Rule, FirstBroken, Keeps, lutsOf, lutRules, labelsOf, gates}
 use Rattle.weighing.specs.declared.luts.LutsJudged.{LutsJudged}
 use Rattle.weighing.specs.declared.luts.LutsJudged.the-variants as luts-judged
 use Rattle.weighing.specs.declared.whole.WholeJudged.{WholeJudged}
-use Rattle.weighing.specs.declared.whole.WholeJudged.the-variants as whole-judged
-use Rattle.weighing.specs.PassThree.{LutsRuled, LutsAsked, LutsAnswered}
-use Rattle.weighing.specs.PassFour.{WholeRuled, WholeAsked, WholeAnswered}
+use Rattle.weighing.specs.PassThree.{LutsRuled, LutsAsked}
+use Rattle.weighing.specs.PassFour.{WholeRuled, WholeAsked}
 use Rattle.inspecting.specs.declared.Inspection.{Inspection}
 use Rattle.inspecting.specs.declared.Inspection.the-variants as inspection
 use Rattle.inspecting.specs.Inspecting.{replyOf}
-use Rattle.inspecting.specs.Holding.{SheetHeld, LastAsked, Replies, LastRuled, lastRules}
-use Rattle.inspecting.proofs.Firsts.{first-before, first-after}
+use Rattle.inspecting.specs.Holding.{SheetHeld, LastAsked, LastRuled}
+use Rattle.sheet.proofs.Firsts.{first-before, first-after}
 use Rattle.inspecting.proofs.Listed.{luts-held, luts-laid, listed-below}
 use Rattle.inspecting.proofs.Passes.{foundLuts, luts-found, foundWhole, whole-found, luts-chosen}
 

@@ -4,5 +4,6 @@ pub mod Listed
 pub mod Passes
 pub mod Last
 pub mod Taken
+pub mod Places
 pub mod Sound
 pub mod Loaded

@@ -1,20 +1,19 @@
 -- LUTs in a list, roots rising, and the set of LUTs that the list and the arrays stand for.
-use Prim.Native.Nat.{ℕ, zero, suc, _+_, _*_, _-_, _≤_, _<_}
-use native.Mathlib.Decide.{decLt, ℕ-discrete}
+use Prim.Native.Nat.{ℕ, _≤_, _<_}
+use native.Mathlib.Decide.{decLt}
 use native.Mathlib.Omega.{arith}
 use mathlib.Core.Path.{_≡_, refl, ap, sym, subst, fun-ext, _∙_}
 use mathlib.Core.Bool.{Bool, true, false, cond, _||_, or-true}
 use mathlib.Core.Logic.{_⊎_, inl, inr, ⊎-elim}
 use mathlib.Core.List.{List, [], _∷_, List·Memᴰ, List·Memᴰ·head, List·Memᴰ·tail, List·Memᴰ·not-nil, List·Memᴰ·cases-cons}
-use lib.ListN.{length, getD, take, length-take, List·getD-eq-default}
+use lib.ListN.{getD, take, length-take, List·getD-eq-default}
 use lib.Seq.{getD-take}
 use lib.Dec.{eqb}
 use borrow.Author.Tests.{eqb-true, eq-eqb}
 use Rattle.theory.specs.Values.{bit}
-use Rattle.theory.specs.Cover.{Luts}
 use Rattle.drawing.specs.Table.{netIn}
 use Rattle.walking.proofs.Entries.{fanins-in, fanins-out, false-not-true}
-use Rattle.covering.specs.Covers.{isRoot, lutsIn, MarksFit}
+use Rattle.covering.specs.Covers.{isRoot, lutsIn}
 use Rattle.sheet.specs.Sheet.{Lut}
 use Rattle.sheet.specs.Rules.{isListed, leavesListed, tableListed, lutsOf}
 use Rattle.sheet.specs.Arrays.{HoldsLuts}

@@ -1,8 +1,8 @@
 -- Passes two to four on a sheet that is loaded: the first rule broken is that of the first pass that finds one.
-use Prim.Native.Nat.{ℕ, _+_, _-_, _≤_, _<_}
+use Prim.Native.Nat.{ℕ, _≤_, _<_}
 use native.Mathlib.Omega.{arith}
-use mathlib.Core.Path.{_≡_, refl, ap, sym, subst, _∙_}
-use mathlib.Core.List.{List, [], _∷_, _++_, map, flatMap, append-assoc}
+use mathlib.Core.Path.{_≡_, refl, ap, _∙_}
+use mathlib.Core.List.{List, _++_, flatMap, append-assoc}
 use lib.ListN.{length, getD, take}
 use Rattle.theory.specs.Net.{Net}
 use Rattle.drawing.specs.declared.Node.{Node}
@@ -10,18 +10,18 @@ use Rattle.drawing.specs.Table.{netIn, tablesIn}
 use Rattle.sheet.specs.Sheet.{Sheet}
 use Rattle.sheet.specs.Encoding.{narrow}
 use Rattle.sheet.specs.Shape.{reading}
-use Rattle.sheet.specs.Rules.{Rule, Found, FirstBroken, Keeps, gateRules, lutRules, gates, rulesOf}
+use Rattle.sheet.specs.Rules.{Rule, Found, FirstBroken, Keeps, gateRules, gates, rulesOf}
 use Rattle.walking.proofs.Listings.{drawn-span}
 use Rattle.shaping.specs.Loading.{LineArrays, LutArrays, LineRoom, LutRoom, Loadable, Loaded}
 use Rattle.shaping.proofs.Holding.{holds-lines, holds-places, holds-luts}
 use Rattle.judging.specs.declared.Judged.{Judged}
 use Rattle.judging.specs.declared.Judged.the-variants as judged
-use Rattle.judging.specs.Gates.{Scratch, scratchOf, ScratchLong, linedOf, HoldsSheet, JudgeAsked, GatesJudged, foundOf}
+use Rattle.judging.specs.Gates.{Scratch, ScratchLong, linedOf, HoldsSheet, JudgeAsked, GatesJudged, foundOf}
 use Rattle.inspecting.specs.declared.Inspection.{Inspection}
 use Rattle.inspecting.specs.declared.Inspection.the-variants as inspection
 use Rattle.inspecting.specs.Inspecting.{replyOf, dueFor}
-use Rattle.inspecting.specs.Holding.{SheetHeld, lastRules, LastAsked, LastRuled, Replies, TableLaid, SheetRuled, RulesAsked, LoadedAsked}
-use Rattle.inspecting.proofs.Firsts.{first-before, first-after}
+use Rattle.inspecting.specs.Holding.{SheetHeld, lastRules, LastAsked, LastRuled, SheetRuled, RulesAsked, LoadedAsked}
+use Rattle.sheet.proofs.Firsts.{first-before, first-after}
 use Rattle.inspecting.proofs.Sound.{roots-rise, sheet-short}
 
 rules-split : (net : Net) (sheet : Sheet) → rulesOf net sheet ≡ flatMap (gateRules (net .inputs) (sheet .lines)) (gates net) ++ lastRules net sheet

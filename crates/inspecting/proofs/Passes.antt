@@ -1,25 +1,19 @@
 -- The replies of passes three and four, as the first rule that is broken; and what pass three leaves for pass four: leaves before their roots.
-use Prim.Native.Nat.{ℕ, zero, suc, _+_, _*_, _-_, _≤_, _<_}
-use native.Mathlib.Decide.{ℕ-discrete}
+use Prim.Native.Nat.{ℕ, zero, suc, _+_, _-_, _≤_, _<_}
 use native.Mathlib.Numerals.{add-one}
 use native.Mathlib.Omega.{arith}
 use mathlib.Core.Path.{_≡_, refl, ap, sym, subst, _∙_}
 use mathlib.Core.Bool.{Bool, true, false}
-use mathlib.Core.Logic.{_⊎_, inl, inr, ⊎-elim}
-use mathlib.Core.List.{List, [], _∷_, _++_, map, flatMap, List·Memᴰ, List·Memᴰ·head, List·Memᴰ·tail, List·Memᴰ·not-nil, List·Memᴰ·cases-cons}
-use lib.ListN.{length, getD, take, length-take}
-use lib.Seq.{getD-take}
-use Rattle.theory.specs.Net.{Net, Gate, Input}
+use mathlib.Core.List.{List, [], _∷_, _++_, map, flatMap, List·Memᴰ, List·Memᴰ·not-nil}
+use Rattle.theory.specs.Net.{Net, Gate}
 use Rattle.theory.specs.Lists.{greatest}
 use Rattle.theory.specs.Walk.{Cut, Met}
 use Rattle.theory.specs.Cover.{Luts, Depth, Depths}
 use Rattle.theory.specs.Lookup.{ConeTable}
-use Rattle.theory.proofs.Walks.{met-node}
 use Rattle.drawing.specs.Table.{netIn}
-use Rattle.walking.specs.Arrays.{Ordered}
 use Rattle.walking.proofs.Listings.{drawn-span}
 use Rattle.covering.specs.Covers.{Chosen, lutsIn}
-use Rattle.covering.proofs.Orders.{gate-of, gate-above, gate-below, order-gate, met-place}
+use Rattle.covering.proofs.Orders.{gate-below, gate-there, order-of-leaves, leaf-node}
 use Rattle.sheet.specs.Sheet.{Lut, Sheet, lutOf}
 use Rattle.sheet.specs.Rules.{Rule, Found, FirstBroken, Keeps, DepthKept, CoverKept, isListed, leavesListed, tableListed, lutsOf, lutRules, labelsOf, from, gates}
 use Rattle.weighing.specs.declared.luts.LutsJudged.{LutsJudged}
@@ -28,9 +22,10 @@ use Rattle.weighing.specs.declared.whole.WholeJudged.{WholeJudged}
 use Rattle.weighing.specs.declared.whole.WholeJudged.the-variants as whole-judged
 use Rattle.weighing.specs.Laid.{DrawingLaid, LutsLaid}
 use Rattle.weighing.specs.PassThree.{LutKept, KeptBelow, LutsRuled}
-use Rattle.weighing.specs.PassFour.{CoveredBelow, WholeRuled}
+use Rattle.weighing.specs.PassFour.{WholeRuled}
 use Rattle.inspecting.specs.Holding.{Ascends, rootOf}
-use Rattle.inspecting.proofs.Firsts.{first-none, first-at, first-before, first-after}
+use Rattle.sheet.proofs.Firsts.{first-none, first-before, first-after, from-member, member-from}
+use Rattle.inspecting.proofs.Firsts.{first-at}
 use Rattle.inspecting.proofs.Listed.{member-listed, listed-member, leaves-listed, table-listed, unlisted-leaves}
 
 -- Pass three
@@ -99,22 +94,6 @@ from-ascends v (suc count) =
     let rest : Ascends (λ (u : ℕ). u) (v + 1) (from (suc v) count) = rw (add-one v) (from-ascends (suc v) count) in
     Ascends.more {least = v} {x = v} (omega arith) rest
 
-from-member : (v count g : ℕ) → List·Memᴰ g (from v count) → (v ≤ g) × (g < v + count)
-unfolding from
-from-member v zero g m = absurd (List·Memᴰ·not-nil m)
-from-member v (suc count) g m =
-    ⊎-elim (λ (e : g ≡ v). (omega arith, omega arith))
-    (λ (late : List·Memᴰ g (from (suc v) count)). let (low, high) = from-member (suc v) count g late in (omega arith, omega arith)) (List·Memᴰ·cases-cons m)
-
-member-from : (v count g : ℕ) → v ≤ g → g < v + count → List·Memᴰ g (from v count)
-unfolding from
-member-from v zero g low high = absurd (omega arith)
-member-from v (suc count) g low high = by (ℕ-discrete g v) (member-from (suc v) count g)
-  where
-    by : Dec (g ≡ v) → (suc v ≤ g → g < suc v + count → List·Memᴰ g (from (suc v) count)) → List·Memᴰ g (v ∷ from (suc v) count)
-    by (yes e) later = List·Memᴰ·head e
-    by (no apart) later = List·Memᴰ·tail (later (omega arith) (omega arith))
-
 covers-flat : (gs : List ℕ) → map Rule.cover gs ≡ flatMap (λ g. Rule.cover g ∷ []) gs
 unfolding flatMap
 covers-flat [] = refl
@@ -175,8 +154,9 @@ module _ (inputs nodes k : ℕ) (fan count order roots leaves sizes : List ℕ) 
   leaves-are v = ap (λ (l : Luts). l .leaves v) held
 
   -- a leaf is met by the walk from its root
-  leaf-met : {r u : ℕ} → List·Memᴰ u (netIn inputs nodes leaves sizes .fanins r) → Met (netIn inputs nodes fan count) (leavesListed luts r) r u
-  leaf-met {r} {u} m = by (isListed luts r) refl
+  leaf-met : (r u : ℕ) → Gate (netIn inputs nodes fan count) r → List·Memᴰ u (netIn inputs nodes leaves sizes .fanins r) →
+      Met (netIn inputs nodes fan count) (leavesListed luts r) r u
+  leaf-met r u _ m = by (isListed luts r) refl
     where
       listed : List·Memᴰ u (leavesListed luts r)
       listed = rw (leaves-are r) at m
@@ -184,40 +164,6 @@ module _ (inputs nodes k : ℕ) (fan count order roots leaves sizes : List ℕ) 
       by : (b : Bool) → isListed luts r ≡ b → Met (netIn inputs nodes fan count) (leavesListed luts r) r u
       by true at = cuts r at .met u listed
       by false none = absurd (List·Memᴰ·not-nil (rw (unlisted-leaves luts r none) at listed))
-
-  gate-there : {v : ℕ} → Gate (netIn inputs nodes fan count) v → Gate (netIn inputs nodes leaves sizes) v
-  gate-there gate = gate-of inputs nodes leaves sizes (gate-above inputs nodes fan count gate) (gate-below inputs nodes fan count gate)
-
-  gate-back : {v : ℕ} → Gate (netIn inputs nodes leaves sizes) v → Gate (netIn inputs nodes fan count) v
-  gate-back gate = gate-of inputs nodes fan count (gate-above inputs nodes leaves sizes gate) (gate-below inputs nodes leaves sizes gate)
-
-  same-size : (n : ℕ) → netIn inputs nodes fan count .inputs + n ≡ netIn inputs nodes fan count .nodes →
-      netIn inputs nodes leaves sizes .inputs + n ≡ netIn inputs nodes leaves sizes .nodes
-  unfolding netIn
-  same-size n e = e
-
-  leaf-node : {r u : ℕ} → Gate (netIn inputs nodes leaves sizes) r → List·Memᴰ u (netIn inputs nodes leaves sizes .fanins r) → u < nodes
-  unfolding netIn
-  leaf-node gate m = met-node (drawing .drawn .bounded) (gate .below) (leaf-met m)
-
-  order-of-luts : Ordered (netIn inputs nodes leaves sizes) (take (nodes - inputs) order)
-  order-of-luts =
-      record {
-        size = same-size (length (take (nodes - inputs) order)) (drawing .ordered .size);
-        gates = λ v m. gate-there (drawing .ordered .gates v m);
-        all = λ v gate. drawing .ordered .all v (gate-back gate);
-        once = drawing .ordered .once;
-        before = before;
-      }
-    where
-      before : (i u : ℕ) → i < length (take (nodes - inputs) order) →
-          List·Memᴰ u (netIn inputs nodes leaves sizes .fanins (getD (take (nodes - inputs) order) i 0)) → Gate (netIn inputs nodes leaves sizes) u →
-          (j : ℕ) × (j < i) × (getD (take (nodes - inputs) order) j 0 ≡ u)
-      before i u inside m gate =
-          let low : i < nodes - inputs = omega (arith, length-take (nodes - inputs) order) in
-          let leaf = rw (getD-take (nodes - inputs) order i 0 low) at m in
-          let (j, less, e) = met-place (nodes - inputs) order (drawing .order-long) (drawing .ordered) (drawing .drawn .bounded) i low refl (leaf-met leaf) (gate-back gate) in
-          (j, less, getD-take (nodes - inputs) order j 0 (omega arith) ∙ e)
 
   pub luts-chosen : Chosen inputs nodes order leaves sizes
   luts-chosen =
@@ -227,6 +173,7 @@ module _ (inputs nodes k : ℕ) (fan count order roots leaves sizes : List ℕ) 
         leaves-long = laid .leaves-long;
         sizes-long = laid .sizes-long;
         six = λ g gate. laid .six g (gate-below inputs nodes leaves sizes gate);
-        leaf-nodes = λ g gate v m. leaf-node gate m;
-        ordered = order-of-luts;
+        leaf-nodes = λ g gate v m.
+            leaf-node inputs nodes 6 fan count order leaves sizes (drawing .drawn .bounded) (drawing .order-long) (drawing .ordered) (leavesListed luts) leaf-met (gate-there inputs nodes leaves sizes fan count gate) m;
+        ordered = order-of-leaves inputs nodes 6 fan count order leaves sizes (drawing .drawn .bounded) (drawing .order-long) (drawing .ordered) (leavesListed luts) leaf-met;
       }

@@ -1,22 +1,14 @@
 -- One promise allows one reply, and a sheet is accepted exactly if it keeps all the rules.
 use Prim.Native.Nat.{ℕ}
 use native.Mathlib.Omega.{arith}
-use mathlib.Core.Path.{_≡_, refl, ap, sym, _∙_}
+use mathlib.Core.Path.{_≡_, refl, ap}
 use mathlib.Core.List.{List}
-use Rattle.drawing.specs.declared.Verdict.{Verdict}
-use Rattle.drawing.specs.declared.Verdict.the-variants as verdict
-use Rattle.drawing.specs.Reading.{found}
-use Rattle.walking.specs.declared.Ordering.{Ordering}
-use Rattle.walking.specs.declared.Ordering.the-variants as made
 use Rattle.walking.proofs.Unique.{ruling-one}
-use Rattle.sheet.specs.declared.Ruling.{Ruling}
-use Rattle.sheet.specs.declared.Ruling.the-variants as ruling
-use Rattle.sheet.specs.Shape.{reading}
 use Rattle.sheet.specs.Rules.{Rule, Found}
 use Rattle.inspecting.specs.declared.Inspection.{Inspection}
-use Rattle.inspecting.specs.declared.Inspection.the-variants.{Accepted, Refused, LoopAt, Shape}
-use Rattle.inspecting.specs.Inspecting.{replyOf, dueIn, Drawable, sheetIn, Inspects, KeepsAll}
-use Rattle.inspecting.proofs.Firsts.{first-is-one, none-keeps, keeps-none}
+use Rattle.inspecting.specs.declared.Inspection.the-variants.{Accepted}
+use Rattle.inspecting.specs.Inspecting.{replyOf, sheetIn, Inspects, KeepsAll}
+use Rattle.sheet.proofs.Firsts.{first-is-one, none-keeps, keeps-none}
 
 module _ (s t : List ℕ) where
   pub one-reply : {r r′ : Inspection} → Inspects s t r → Inspects s t r′ → r ≡ r′

@@ -1,26 +1,24 @@
 -- What a sound shape gives the later passes: roots that rise, and a sheet that is not too long for 32-bit places.
-use Prim.Native.Nat.{ℕ, zero, suc, _+_, _*_, _-_, _^_, _≤_, _<_}
+use Prim.Native.Nat.{ℕ, zero, suc, _+_, _-_, _^_, _≤_, _<_}
 use native.Mathlib.Omega.{arith}
 use mathlib.Core.Path.{_≡_, refl, ap, sym, subst, _∙_}
-use mathlib.Core.Bool.{Bool, true, false, cond, not, _||_}
+use mathlib.Core.Bool.{Bool, true, false, cond, _||_}
 use mathlib.Core.Logic.{⊎-elim}
-use mathlib.Core.List.{List, [], _∷_, List·Memᴰ, List·Memᴰ·not-nil, List·Memᴰ·cases-cons}
+use mathlib.Core.List.{List, List·Memᴰ, List·Memᴰ·not-nil, List·Memᴰ·cases-cons}
 use lib.ListN.{length, getD}
-use lib.Dec.{ltb, leb, eqb}
+use lib.Dec.{ltb, leb}
 use borrow.Author.Tests.{ltb-false, leb-false}
-use Rattle.drawing.specs.Bytes.{lengthAt, numberAt}
-use Rattle.drawing.proofs.Digits.{number-none, number-more}
 use Rattle.sheet.specs.declared.Fault.{Fault}
 use Rattle.sheet.specs.declared.Fault.the-variants.{Extra}
-use Rattle.sheet.specs.declared.Ruling.{Ruling}
 use Rattle.sheet.specs.declared.Ruling.the-variants.{Sound, Faulty}
-use Rattle.sheet.specs.Sheet.{Line, Lut, Sheet}
-use Rattle.sheet.specs.Shape.{Due, endAt, lutAt, lutRuling, lutRange, leavesRange, lineAt, lineRuling, headRuling, depthAt, countAt, Fields, andField, linesFrom, lutsFrom, reading}
+use Rattle.sheet.specs.Sheet.{Lut, Sheet}
+use Rattle.sheet.specs.Shape.{Due, endAt, lutAt, lutRuling, leavesRange, countAt, lutsFrom, reading}
 use Rattle.shaping.proofs.Values.{or-none}
-use Rattle.shaping.proofs.FieldRuns.{lut-kept, line-kept, head-kept, ruling-read}
+use Rattle.shaping.proofs.FieldRuns.{lut-kept, head-kept, ruling-read}
 use Rattle.shaping.specs.Judging.{afterHeadRuling, afterLinesRuling}
-use Rattle.shaping.proofs.Found.{first-sound, rest-sound, all-read, all-next, theLines, theLuts, whole}
+use Rattle.shaping.proofs.Found.{first-sound, rest-sound, all-read, theLines, theLuts, whole}
 use Rattle.inspecting.specs.Holding.{Ascends, rootOf, RootsRise}
+use Rattle.inspecting.proofs.Places.{faultOr, head-numbers, field-short, lines-place, luts-place}
 
 module _ (due : Due) (s : List ℕ) where
   module _ (least at : ℕ) (ruled : lutRuling due s least at ≡ Sound) where
@@ -70,38 +68,6 @@ module _ (due : Due) (s : List ℕ) where
   -- Each field is at most 65,538 bytes long, and there are not many of them.
 
   module _ (bytes : (i : ℕ) → getD s i 0 < 256) where
-    field-short : (at : ℕ) → 3 ≤ length s - at → endAt s at ≤ at + 65538
-    field-short at begun =
-        let two = number-more s (at + 1) 1 (omega arith) in
-        let one = number-more s (at + 1) 0 (omega arith) in
-        omega (arith, two, one, number-none s (at + 1), bytes (at + 1 + 0), bytes (at + 1 + 1))
-
-    lines-short : (gates at : ℕ) → linesFrom due s gates at .ruling ≡ Sound → linesFrom due s gates at .next ≤ at + gates * 65538
-    unfolding linesFrom
-    lines-short zero at sound = omega arith
-    lines-short (suc gates) at sound =
-        let rest = linesFrom due s gates (endAt s at) in
-        let ruled = first-sound (lineRuling due s at) (lineAt due s at) at rest sound in
-        let later = lines-short gates (endAt s at) (rest-sound (lineRuling due s at) (lineAt due s at) at rest sound) in
-        omega (arith, all-next (lineRuling due s at) (lineAt due s at) at rest sound, later, field-short at (line-kept due s at ruled .begun))
-
-    luts-short : (left least at : ℕ) → lutsFrom due s left least at .ruling ≡ Sound → lutsFrom due s left least at .next ≤ at + left * 65538
-    unfolding lutsFrom
-    luts-short zero least at sound = omega arith
-    luts-short (suc left) least at sound =
-        let lut = lutAt due s at in
-        let rest = lutsFrom due s left (lut .root + 1) (endAt s at) in
-        let ruled = first-sound (lutRuling due s least at) lut at rest sound in
-        let later = luts-short left (lut .root + 1) (endAt s at) (rest-sound (lutRuling due s least at) lut at rest sound) in
-        omega (arith, all-next (lutRuling due s least at) lut at rest sound, later, field-short at (lut-kept due s least at ruled .begun))
-
-    few-luts : headRuling due s ≡ Sound → countAt due s ≤ due .nodes - due .inputs
-    few-luts ruled =
-        let version = not (eqb (numberAt s 3 1) 1) in
-        let deep = ltb (due .most) (depthAt due s) in
-        let many = ltb (due .nodes - due .inputs) (countAt due s) in
-        ltb-false (due .nodes - due .inputs) (countAt due s) (or-none deep many (or-none version (deep || many) (head-kept due s ruled .ranged) .1) .1)
-
     no-extra : reading due s .ruling ≡ Sound → length s ≤ theLuts due s .next
     unfolding afterHeadRuling afterLinesRuling
     no-extra sound =
@@ -117,6 +83,15 @@ module _ (due : Due) (s : List ℕ) where
     pub sheet-short : due .nodes - due .inputs ≤ 192 → reading due s .ruling ≡ Sound → length s < 2 ^ 32
     sheet-short few sound =
         let all = whole due s sound in
-        let lines = lines-short (due .nodes - due .inputs) (endAt s 0) (all .lines) in
-        let luts = luts-short (countAt due s) (due .inputs) (theLines due s .next) (all .luts) in
-        omega (arith, no-extra sound, few-luts (all .head), lines, luts, field-short 0 (head-kept due s (all .head) .begun))
+        let lines = lines-place due s bytes (due .nodes - due .inputs) (endAt s 0) in
+        let luts = luts-place due s bytes (countAt due s) (due .inputs) (theLines due s .next) in
+        omega (
+          arith,
+          no-extra sound,
+          head-numbers due s (all .head) .1,
+          lines,
+          ap (faultOr (theLines due s .next)) (all .lines),
+          luts,
+          ap (faultOr (theLuts due s .next)) (all .luts),
+          field-short due s bytes 0 (head-kept due s (all .head) .begun),
+        )

@@ -16,7 +16,7 @@ use Rattle.sheet.specs.declared.Ruling.the-variants as ruling
 use Rattle.sheet.specs.Sheet.{Sheet}
 use Rattle.sheet.specs.Encoding.{narrow}
 use Rattle.sheet.specs.Shape as shape
-use Rattle.sheet.specs.Shape.{Due, reading}
+use Rattle.sheet.specs.Shape.{Due, reading, dueFrom}
 use Rattle.sheet.specs.Rules.{Rule, Found, FirstBroken, Keeps, rulesOf}
 use Rattle.inspecting.specs.declared.Inspection.{Inspection}
 use Rattle.inspecting.specs.declared.Inspection.the-variants.{Accepted, Refused, LoopAt, Shape, Cut, Label, Paths, Cover, Function, Depth}
@@ -59,7 +59,7 @@ replyOf depth (Found.broken Rule.depth) = Depth
 
 -- what a sheet is read for: ids of one byte, labels and depth up to 191, and the table's K, I and n
 abbrev pub dueFor : (k inputs nodes : ℕ) → Due
-dueFor k inputs nodes = record { form = narrow; most = 191; k = k; inputs = inputs; nodes = nodes }
+dueFor k inputs nodes = dueFrom narrow 191 k inputs nodes
 
 abbrev pub dueIn : List ℕ → Due
 dueIn s = dueFor (headK s) (headI s) (nodesOf s)

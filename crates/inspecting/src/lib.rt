@@ -283,7 +283,7 @@ fn judge_sheet(
 }
 
 // A gate table and a sheet, judged: replies 1 to 7 for a bad table, then the four passes. Everything stands in arrays for the largest
-// table, some 24,000 bytes in all, so none is too short and nothing is asked of the caller.
+// table, 15,296 bytes in all, so none is too short and nothing is asked of the caller.
 pub fn inspect(table: &[u8], sheet: &[u8]) -> Inspection
     ensures { λ r. ⌜ Inspects (now (table .entry)) (now (sheet .entry)) r ⌝ }
 {

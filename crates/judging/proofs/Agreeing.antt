@@ -1,42 +1,16 @@
 -- What rules 26 and 27 say of a gate rests on the labels behind it and on its own: labels that agree there give one answer.
 use Prim.Native.Nat.{ℕ, suc}
-use native.Mathlib.Omega.{arith}
 use mathlib.Core.Path.{_≡_, sym, ap, _∙_}
-use mathlib.Core.Logic.{_⊎_, inl, inr, ⊎-elim}
+use mathlib.Core.Logic.{inl, inr, ⊎-elim}
 use mathlib.Core.List.{List, map, List·Memᴰ}
 use Rattle.theory.specs.Net.{Net}
 use Rattle.theory.specs.Lists.{greatest}
 use Rattle.theory.specs.Walk.{Behind}
-use Rattle.theory.specs.Evidence.{peak, Run, TruePath, Evidence, Owes}
+use Rattle.theory.specs.Evidence.{peak}
 use Rattle.theory.proofs.Picks.{map-agree}
-use Rattle.theory.proofs.Rules.{peak-agrees, d-agrees}
+use Rattle.theory.proofs.Rules.{peak-agrees, evidence-agrees, owes-agrees}
 use Rattle.sheet.specs.Rules.{LabelKept, PathsKept}
 use Rattle.judging.specs.Gates.{LabelRight}
-
-module _ {net : Net} {lab mab : ℕ → ℕ} {t : ℕ} (agree : (v : ℕ) → Behind net t v → lab v ≡ mab v) where
-  run-agrees : {path : List ℕ} → Run net lab t path → Run net mab t path
-  run-agrees (Run.last deep feeds) = Run.last (d-agrees agree deep) feeds
-  run-agrees (Run.more feeds run) = Run.more feeds (run-agrees run)
-
-  path-agrees : {path : List ℕ} → TruePath net lab t path → TruePath net mab t path
-  path-agrees p =
-      record {
-        first = p .first;
-        rest = p .rest;
-        whole = p .whole;
-        starts = p .starts;
-        runs = run-agrees (p .runs);
-        behind = p .behind;
-        outside = λ v m deep. p .outside v m (d-agrees (λ w b. sym (agree w b)) deep);
-      }
-
-  evidence-agrees : {k : ℕ} {paths : List (List ℕ)} → Evidence net k lab t paths → Evidence net k mab t paths
-  evidence-agrees e = record { count = e .count; each = λ path m. path-agrees (e .each path m); apart = e .apart }
-
-  owes-agrees : lab t ≡ mab t → Owes net lab t → Owes net mab t
-  owes-agrees own owes =
-      let e : peak net lab t ≡ peak net mab t = peak-agrees agree in
-      record { above = sym own ∙ owes .above ∙ ap suc e; some = omega (arith, owes .some) }
 
 pub paths-agree : {net : Net} {lab mab : ℕ → ℕ} {t k : ℕ} {paths : List (List ℕ)} → ((v : ℕ) → Behind net t v → lab v ≡ mab v) → lab t ≡ mab t →
     PathsKept net k lab t paths → PathsKept net k mab t paths

@@ -1,28 +1,16 @@
 -- The first rule that is not kept, gate by gate.
-use Prim.Native.Nat.{ℕ, suc, _+_, _-_, _≤_, _<_}
-use native.Mathlib.Omega.{arith}
-use native.Mathlib.Numerals.{add-one}
-use mathlib.Core.Path.{_≡_, refl, sym, ap, subst, _∙_}
-use mathlib.Core.List.{List, [], _∷_, _++_, flatMap}
+use Prim.Native.Nat.{ℕ}
+use mathlib.Core.Path.{_≡_, refl, sym, subst}
+use mathlib.Core.List.{List, [], _∷_, flatMap}
 use Rattle.theory.specs.Net.{Net}
 use Rattle.theory.specs.Walk.{Cut}
 use Rattle.drawing.specs.declared.Node.{Node}
 use Rattle.sheet.specs.Sheet.{Line, Lut}
-use Rattle.sheet.specs.Rules.{Rule, Found, FirstBroken, Keeps, LabelKept, PathsKept, labelsOf, lineOfNode, gateRules, from}
+use Rattle.sheet.specs.Rules.{FirstBroken, Keeps, LabelKept, PathsKept, labelsOf, lineOfNode, gateRules}
+use Rattle.sheet.proofs.Firsts.{first-before, first-after}
 use Rattle.judging.specs.declared.Judged.{Judged}
 use Rattle.judging.specs.declared.Judged.the-variants as judged
 use Rattle.judging.specs.Gates.{Judges, foundOf}
-
-module _ {Keep : Rule → Type 0} where
-  kept-then : {rules : List Rule} {others : List Rule} {x : Found} → FirstBroken Keep rules Found.none → FirstBroken Keep others x →
-      FirstBroken Keep (rules ++ others) x
-  kept-then FirstBroken.kept later = later
-  kept-then (FirstBroken.later one rest) later = FirstBroken.later one (kept-then rest later)
-
-  broken-then : {rules : List Rule} (others : List Rule) {r : Rule} → FirstBroken Keep rules (Found.broken r) →
-      FirstBroken Keep (rules ++ others) (Found.broken r)
-  broken-then others (FirstBroken.here none) = FirstBroken.here none
-  broken-then others (FirstBroken.later one rest) = FirstBroken.later one (broken-then others rest)
 
 -- One gate
 
@@ -71,21 +59,11 @@ module _ (net : Net) (k : ℕ) (lines : List Line) where
 
   pub kept-first : (t : ℕ) (ts : List ℕ) (r : Judged) → Judges net k lines (t ∷ []) judged.Kept → Judges net k lines ts r → Judges net k lines (t ∷ ts) r
   unfolding flatMap
-  kept-first t ts r here later tables outputs sheet e = kept-then (here tables outputs sheet e) (later tables outputs sheet e)
+  kept-first t ts r here later tables outputs sheet e = first-after (here tables outputs sheet e) (later tables outputs sheet e)
 
   pub broken-first : (t : ℕ) (ts : List ℕ) (r : Judged) → (r ≡ judged.Kept → ⊥) → Judges net k lines (t ∷ []) r → Judges net k lines (t ∷ ts) r
   unfolding flatMap
   broken-first t ts judged.Kept not-kept here = absurd (not-kept refl)
-  broken-first t ts (judged.Cut gate) not-kept here = λ tables outputs sheet e. broken-then (flatMap (gateRules (net .inputs) lines) ts) (here tables outputs sheet e)
-  broken-first t ts (judged.Label gate) not-kept here = λ tables outputs sheet e. broken-then (flatMap (gateRules (net .inputs) lines) ts) (here tables outputs sheet e)
-  broken-first t ts (judged.Paths gate) not-kept here = λ tables outputs sheet e. broken-then (flatMap (gateRules (net .inputs) lines) ts) (here tables outputs sheet e)
-
-pub from-more : (t n : ℕ) → t < n → from t (n - t) ≡ t ∷ from (t + 1) (n - (t + 1))
-unfolding from
-from-more t n low =
-    let count : n - t ≡ suc (n - (t + 1)) = omega arith in
-    ap (from t) count ∙ ap (λ (v : ℕ). t ∷ from v (n - (t + 1))) (sym (add-one t))
-
-pub from-none : (t n : ℕ) → n ≤ t → from t (n - t) ≡ []
-unfolding from
-from-none t n high = let count : n - t ≡ 0 = omega arith in ap (from t) count
+  broken-first t ts (judged.Cut gate) not-kept here = λ tables outputs sheet e. first-before (flatMap (gateRules (net .inputs) lines) ts) (here tables outputs sheet e)
+  broken-first t ts (judged.Label gate) not-kept here = λ tables outputs sheet e. first-before (flatMap (gateRules (net .inputs) lines) ts) (here tables outputs sheet e)
+  broken-first t ts (judged.Paths gate) not-kept here = λ tables outputs sheet e. first-before (flatMap (gateRules (net .inputs) lines) ts) (here tables outputs sheet e)

@@ -1,6 +1,6 @@
 -- A gate of a drawing whose sheet's lines stand in arrays and bytes: what the three tests ask is there, and what they tell in terms of the
 -- arrays is what the rules say of the lines.
-use Prim.Native.Nat.{ℕ, _*_, _-_, _≤_, _<_}
+use Prim.Native.Nat.{ℕ, _*_, _≤_, _<_}
 use native.Mathlib.Omega.{arith}
 use mathlib.Core.Path.{_≡_, refl, sym, ap, subst, _∙_}
 use mathlib.Core.Bool.{Bool, true, false}
@@ -11,7 +11,7 @@ use Rattle.theory.specs.Evidence.{peak}
 use Rattle.theory.proofs.Walks.{met-node}
 use Rattle.drawing.specs.declared.Node.{Node}
 use Rattle.drawing.specs.Table.{netIn}
-use Rattle.walking.specs.Listing.{Tells}
+use Rattle.walking.specs.Listing.{Tells, faninsAt}
 use Rattle.walking.specs.Promises.{CutRuled}
 use Rattle.walking.proofs.Listings.{drawn-six}
 use Rattle.area.specs.Area.{labelIn, Fed, PeakIn}
@@ -19,10 +19,11 @@ use Rattle.area.proofs.Parts.{fed-in}
 use Rattle.sheet.specs.Sheet.{Line}
 use Rattle.sheet.specs.Rules.{LabelKept, PathsKept, lineOfNode, labelsOf}
 use Rattle.judging.specs.declared.Judged.the-variants as judged
-use Rattle.judging.specs.Gates.{dueOf, cutIn, linePathsIn, scratchOf, BeyondKept, CutAsked, LabelAsked, LabelRight, PathsRuleAsked, Told, Lined, HoldsSheet, JudgeAsked, GateAsked, GatesTried}
+use Rattle.judging.specs.Gates.{linePathsIn, scratchOf, BeyondKept, CutAsked, LabelAsked, LabelRight, PathsRuleAsked, Told, Lined, HoldsSheet, JudgeAsked, GateAsked, GatesTried}
 use Rattle.judging.proofs.Lines.{line-sound}
 use Rattle.judging.proofs.Agreeing.{label-kept, label-right, paths-agree}
 use Rattle.judging.proofs.Firsts.{cut-broken, label-broken, paths-broken, gate-kept}
+use Rattle.sheet.specs.Shape.{dueFrom}
 
 module _ {k inputs nodes : ℕ} {fan count order : List ℕ} {l : Lined} {node : Node} {walked met area ends : List ℕ}
     (asked : GateAsked k inputs nodes fan count order l (node .id) (scratchOf walked met area ends)) where
@@ -65,15 +66,15 @@ module _ {k inputs nodes : ℕ} {fan count order : List ℕ} {l : Lined} {node :
 
   -- lines that the arrays and the bytes hold
   module _ {most : ℕ} {lines : List Line} (holds : HoldsSheet k inputs nodes l most lines) where
-    cut-same : cutIn (l .leaves) (l .sizes) (node .id) ≡ lineOfNode inputs lines (node .id) .leaves
+    cut-same : faninsAt (l .leaves) (l .sizes) (node .id) ≡ lineOfNode inputs lines (node .id) .leaves
     cut-same = holds .in-arrays .cut (node .id) here
 
     paths-same : linePathsIn (l .form) (l .bytes) (getD (l .places) (node .id) 0) ≡ lineOfNode inputs lines (node .id) .paths
     paths-same = ap (λ (line : Line). line .paths) (holds .in-bytes .line (node .id) above here)
 
-    leaf-below : (v : ℕ) → List·Memᴰ v (cutIn (l .leaves) (l .sizes) (node .id)) → v < nodes
+    leaf-below : (v : ℕ) → List·Memᴰ v (faninsAt (l .leaves) (l .sizes) (node .id)) → v < nodes
     leaf-below v m =
-        let sound = line-sound (dueOf (l .form) most k inputs nodes) (l .bytes) (getD (l .places) (node .id) 0) (holds .in-bytes .sound (node .id) above here) in
+        let sound = line-sound (dueFrom (l .form) most k inputs nodes) (l .bytes) (getD (l .places) (node .id) 0) (holds .in-bytes .sound (node .id) above here) in
         let e = cut-same ∙ sym (ap (λ (line : Line). line .leaves) (holds .in-bytes .line (node .id) above here)) in
         sound .leaves-below v (subst (List·Memᴰ v) e m)
 
@@ -124,7 +125,7 @@ module _ {k inputs nodes : ℕ} {fan count order : List ℕ} {l : Lined} {node :
   -- What they tell
 
   module _ {walked′ met′ : List ℕ} {r₁ : Bool}
-      (cut : CutRuled (netIn inputs nodes fan count) k (cutIn (l .leaves) (l .sizes) (node .id)) (node .id) walked met r₁ walked′ met′) where
+      (cut : CutRuled (netIn inputs nodes fan count) k (faninsAt (l .leaves) (l .sizes) (node .id)) (node .id) walked met r₁ walked′ met′) where
     walk-beyond : BeyondKept nodes (scratchOf walked met area ends) (scratchOf walked′ met′ area ends)
     unfolding netIn
     walk-beyond =
@@ -140,19 +141,19 @@ module _ {k inputs nodes : ℕ} {fan count order : List ℕ} {l : Lined} {node :
         }
 
     module _ (yes₁ : r₁ ≡ true) {p : ℕ} (peak-known : PeakIn fan count (node .id) (l .labels) p) {r₂ : Bool}
-        (label : Tells (LabelRight (labelIn (l .labels)) (cutIn (l .leaves) (l .sizes) (node .id)) p (node .id)) r₂) where
+        (label : Tells (LabelRight (labelIn (l .labels)) (faninsAt (l .leaves) (l .sizes) (node .id)) p (node .id)) r₂) where
       module _ {most : ℕ} {lines : List Line} (holds : HoldsSheet k inputs nodes l most lines) where
         cut-here : Cut (netIn inputs nodes fan count) k (node .id) (lineOfNode inputs lines (node .id) .leaves)
         cut-here = rw (cut-same holds) at (cut .reply .yes yes₁)
 
-        to-label : LabelRight (labelIn (l .labels)) (cutIn (l .leaves) (l .sizes) (node .id)) p (node .id) →
+        to-label : LabelRight (labelIn (l .labels)) (faninsAt (l .leaves) (l .sizes) (node .id)) p (node .id) →
             LabelKept (netIn inputs nodes fan count) (labelsOf inputs lines) (lineOfNode inputs lines (node .id) .leaves) (node .id)
         to-label right =
             subst (λ (leaves : List ℕ). LabelKept (netIn inputs nodes fan count) (labelsOf inputs lines) leaves (node .id)) (cut-same holds)
             (label-kept (behind-agree holds) (labels-agree holds (node .id) here) (λ v m. labels-agree holds v (leaf-below holds v m)) (peak-here peak-known) right)
 
         from-label : LabelKept (netIn inputs nodes fan count) (labelsOf inputs lines) (lineOfNode inputs lines (node .id) .leaves) (node .id) →
-            LabelRight (labelIn (l .labels)) (cutIn (l .leaves) (l .sizes) (node .id)) p (node .id)
+            LabelRight (labelIn (l .labels)) (faninsAt (l .leaves) (l .sizes) (node .id)) p (node .id)
         from-label kept =
             label-right (behind-agree holds) (labels-agree holds (node .id) here) (λ v m. labels-agree holds v (leaf-below holds v m)) (peak-here peak-known)
             (subst (λ (leaves : List ℕ). LabelKept (netIn inputs nodes fan count) (labelsOf inputs lines) leaves (node .id)) (sym (cut-same holds)) kept)

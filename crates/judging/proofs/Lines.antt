@@ -15,9 +15,9 @@ use Rattle.sheet.specs.declared.Form.{Form}
 use Rattle.sheet.specs.declared.Fault.{Fault}
 use Rattle.sheet.specs.declared.Ruling.{Ruling}
 use Rattle.sheet.specs.declared.Ruling.the-variants.{Sound, Faulty}
-use Rattle.sheet.specs.Shape.{Due, Below, endAt, rising, pathsUse, someEmpty, leavesRange, lineCut, linePaths, lineAt, lineLengthWrong, lineRange, lineRuling}
+use Rattle.sheet.specs.Shape.{Due, Below, endAt, rising, pathsUse, someEmpty, leavesRange, lineCut, linePaths, lineAt, lineLengthWrong, lineRange, lineRuling, dueFrom}
 use Rattle.judging.specs.Paths.{PathsStand}
-use Rattle.judging.specs.Gates.{dueOf, pathsPlace, LineStands}
+use Rattle.judging.specs.Gates.{pathsPlace, LineStands}
 
 none-from : (n : ℕ) (vs : List ℕ) → someFrom n vs ≡ false → Below n vs
 unfolding someFrom
@@ -71,8 +71,8 @@ line-sound due s at e =
 
 -- what reading the paths asks
 module _ {form : Form} {k inputs nodes : ℕ} {s : List ℕ} {at : ℕ} (line : LineStands form k inputs nodes s at) where
-  sound-here : SoundLine (dueOf form (line .most) k inputs nodes) s at
-  sound-here = line-sound (dueOf form (line .most) k inputs nodes) s at (line .sound)
+  sound-here : SoundLine (dueFrom form (line .most) k inputs nodes) s at
+  sound-here = line-sound (dueFrom form (line .most) k inputs nodes) s at (line .sound)
 
   pub place-asks : (at + 3 + form .width + 1 ≤ length s) × (pathsPlace form s at ≤ length s)
   place-asks = let l = sound-here in (omega (arith, l .cut-inside, l .whole), omega (arith, l .q-inside, l .whole))

@@ -5,17 +5,11 @@ use mathlib.Core.List.{List, []}
 use Rattle.drawing.specs.Table.{netIn}
 use Rattle.covering.proofs.Answers.{cleared-once}
 use Rattle.sheet.specs.Sheet.{Line, Sheet}
-use Rattle.sheet.specs.Rules.{Rule, Found, FirstBroken}
+use Rattle.sheet.specs.Rules.{Rule, Found}
+use Rattle.sheet.proofs.Firsts.{first-is-one}
 use Rattle.judging.specs.declared.Judged.{Judged}
 use Rattle.judging.specs.declared.Judged.the-variants as judged
 use Rattle.judging.specs.Gates.{foundOf, Lined, Scratch, JudgeAsked, GatesJudged}
-
-first-once : {Keep : Rule → Type 0} {rules : List Rule} {x y : Found} → FirstBroken Keep rules x → FirstBroken Keep rules y → x ≡ y
-first-once FirstBroken.kept FirstBroken.kept = refl
-first-once (FirstBroken.here none) (FirstBroken.here other) = refl
-first-once (FirstBroken.here none) (FirstBroken.later one rest) = absurd (none one)
-first-once (FirstBroken.later one rest) (FirstBroken.here none) = absurd (none one)
-first-once (FirstBroken.later one rest) (FirstBroken.later other more) = first-once rest more
 
 -- the reply that names a rule
 abbrev replyOf : Found → Judged
@@ -41,7 +35,7 @@ module _ {k inputs nodes : ℕ} {fan count order : List ℕ} {l : Lined} {s : Sc
       let sheet : Sheet = record { depth = 0; lines = asked .lines; luts = [] } in
       let first = a .reply (asked .most) (asked .lines) (asked .holds) (λ v. 0) [] sheet refl in
       let second = b .reply (asked .most) (asked .lines) (asked .holds) (λ v. 0) [] sheet refl in
-      sym (reply-back inputs (asked .lines) r) ∙ ap replyOf (first-once first second) ∙ reply-back inputs (asked .lines) q
+      sym (reply-back inputs (asked .lines) r) ∙ ap replyOf (first-is-one first second) ∙ reply-back inputs (asked .lines) q
 
   pub marks-once : s′ ≡ s″
   marks-once =

@@ -7,14 +7,15 @@ use mathlib.Core.List.{List, [], _∷_}
 use lib.ListN.{length, drop}
 use Rattle.drawing.specs.declared.Node.{Node}
 use Rattle.drawing.specs.Table.{netIn}
-use Rattle.area.proofs.Marking.{drop-agrees}
+use Rattle.walking.proofs.Entries.{drop-agrees}
 use Rattle.covering.specs.Scratch.{Cleared}
 use Rattle.sheet.specs.Rules.{from, gates}
 use Rattle.judging.specs.declared.Judged.{Judged}
 use Rattle.judging.specs.declared.Judged.the-variants as judged
 use Rattle.judging.specs.Gates.{isKept, Lined, Scratch, BeyondKept, JudgeAsked, GateAsked, JudgesHeld, GatesTried}
 use Rattle.judging.proofs.Kept.{beyond-same}
-use Rattle.judging.proofs.Firsts.{none-judged, kept-first, broken-first, from-more, from-none}
+use Rattle.judging.proofs.Firsts.{none-judged, kept-first, broken-first}
+use Rattle.sheet.proofs.Firsts.{from-more, from-none}
 
 pub record SizesKept (s s′ : Scratch) : Type 0 where
   pub walked-size : length (s′ .walked) ≡ length (s .walked)

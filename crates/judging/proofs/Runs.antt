@@ -13,7 +13,7 @@ use Rattle.theory.specs.Evidence.{joined}
 use Rattle.theory.proofs.Tests.{_and-then_, decides-le, decides-itself}
 use Rattle.drawing.specs.Bytes.{numberAt}
 use Rattle.drawing.proofs.SoundFields.{neither}
-use Rattle.walking.specs.Sweeps.{among}
+use Rattle.theory.specs.Lists.{isMember}
 use Rattle.walking.specs.Listing.{faninsAt}
 use Rattle.sheet.specs.Shape.{idsAt, pathEnd, pathsAt, pathsUse, someEmpty, Below}
 use Rattle.judging.specs.Paths.{isMarked, afterPath, goesOn, isPath, arePaths, PathRoom, IdsStand, GoesAsked, PathAsked, PathTold, PathsStand, PathsAsked, PathsTold}
@@ -104,7 +104,7 @@ module _ {fan count ends : List ℕ} {u₀ : ℕ} {s : List ℕ} {at₀ width si
       ids-here = rw read (ids-cons s at width size some)
 
       goes-here : goesOn fan count ends free u (idsAt s at width size)
-          ≡ ((among u (faninsAt fan count v) && isMarked free v) && goesOn fan count ends (set free v 0) v (idsAt s (at + width) width (size - 1)))
+          ≡ ((isMember u (faninsAt fan count v) && isMarked free v) && goesOn fan count ends (set free v 0) v (idsAt s (at + width) width (size - 1)))
       unfolding goesOn
       goes-here = rw ids-here
 
@@ -112,7 +112,7 @@ module _ {fan count ends : List ℕ} {u₀ : ℕ} {s : List ℕ} {at₀ width si
       unfolding afterPath
       taken-here = rw ids-here
 
-      pub going-more : (among u (faninsAt fan count v) && isMarked free v) ≡ true →
+      pub going-more : (isMember u (faninsAt fan count v) && isMarked free v) ≡ true →
           Going fan count ends u₀ s at₀ width size₀ free₀ v (at + width) (size - 1) (set free v 0)
       going-more follows =
           record {
@@ -128,7 +128,7 @@ module _ {fan count ends : List ℕ} {u₀ : ℕ} {s : List ℕ} {at₀ width si
             long = simp length-set (going .long);
           }
 
-      pub going-stops : (among u (faninsAt fan count v) && isMarked free v) ≡ false →
+      pub going-stops : (isMember u (faninsAt fan count v) && isMarked free v) ≡ false →
           PathTold (goesOn fan count ends free₀ u₀ (idsAt s at₀ width size₀)) (idsAt s at₀ width size₀) free₀ false free
       going-stops stops =
           record {

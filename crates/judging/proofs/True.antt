@@ -5,20 +5,19 @@ use native.Mathlib.Decide.{ℕ-discrete}
 use native.Mathlib.Omega.{arith}
 use mathlib.Core.Path.{_≡_, refl, sym, ap, subst, _∙_}
 use mathlib.Core.Logic.{_⊎_, inl, ⊎-elim}
-use mathlib.Core.Bool.{true, false, false≢true}
+use mathlib.Core.Bool.{false≢true}
 use mathlib.Core.List.{List, [], _∷_, _++_, List·Memᴰ, List·Memᴰ·head, List·Memᴰ·tail, List·Memᴰ·not-nil, List·Memᴰ·cases-cons, List·Memᴰ·append-cases, List·Memᴰ·eq-of-singleton, Memᴰ·append-left, Memᴰ·append-right}
 use lib.ListN.{length, getD, set, length-set}
 use lib.Seq.{getD-set-same, getD-set-other}
 use Rattle.theory.specs.Net.{Net, Input}
 use Rattle.theory.specs.Lists.{NoRepeats}
 use Rattle.theory.specs.Evidence.{Run, TruePath, joined}
-use Rattle.theory.proofs.Tests.{Decides, decides-as, _and-then_, decides-lt, decides-equal}
-use Rattle.theory.proofs.Members.{no-repeats-after, no-repeats-apart}
+use Rattle.theory.proofs.Tests.{Decides, decides-as, _and-then_, decides-lt, decides-equal, decides-member}
+use Rattle.theory.proofs.Members.{no-repeats-after, no-repeats-apart, no-repeats-join, no-repeats-first}
 use Rattle.drawing.specs.Table.{netIn}
 use Rattle.walking.specs.Arrays.{Marks}
-use Rattle.walking.specs.Sweeps.{among}
+use Rattle.theory.specs.Lists.{isMember}
 use Rattle.walking.specs.Listing.{faninsAt}
-use Rattle.walking.proofs.Entries.{among-member, member-among}
 use Rattle.area.specs.Area.{InArea, IsEnd}
 use Rattle.area.proofs.Marking.{marks-same}
 use Rattle.area.proofs.Parts.{fanins-in}
@@ -39,17 +38,6 @@ Left P taken v = P v × (List·Memᴰ v taken → ⊥)
 
 held-none : (P : ℕ → Type 0) → Held P []
 held-none P = record { apart = NoRepeats.none; free = λ v m. absurd (List·Memᴰ·not-nil m) }
-
-no-repeats-join : {l m : List ℕ} → NoRepeats l → NoRepeats m → ((v : ℕ) → List·Memᴰ v l → List·Memᴰ v m → ⊥) → NoRepeats (l ++ m)
-no-repeats-join NoRepeats.none there apart = there
-no-repeats-join {m = m} (NoRepeats.more {v = v} {vs = vs} new rest) there apart =
-    NoRepeats.more
-    (λ both. ⊎-elim new (apart v (List·Memᴰ·head refl)) (List·Memᴰ·append-cases vs both))
-    (no-repeats-join rest there (λ w m. apart w (List·Memᴰ·tail m)))
-
-no-repeats-first : (l m : List ℕ) → NoRepeats (l ++ m) → NoRepeats l
-no-repeats-first [] m apart = NoRepeats.none
-no-repeats-first (v ∷ l) m (NoRepeats.more new apart) = NoRepeats.more (λ there. new (Memᴰ·append-left m there)) (no-repeats-first l m apart)
 
 held-join : {P : ℕ → Type 0} {l m : List ℕ} → Held P l → Held (Left P l) m → Held P (l ++ m)
 held-join {l = l} first later =
@@ -121,9 +109,9 @@ module _ (inputs nodes : ℕ) (fan count : List ℕ) (lab : ℕ → ℕ) (t : �
   abbrev net : Net
   net = netIn inputs nodes fan count
 
-  decides-feeds : (u v : ℕ) → v < nodes → Decides (among u (faninsAt fan count v)) (List·Memᴰ u (net .fanins v))
+  decides-feeds : (u v : ℕ) → v < nodes → Decides (isMember u (faninsAt fan count v)) (List·Memᴰ u (net .fanins v))
   decides-feeds u v low =
-      rw (fanins-in inputs nodes fan count v low) (record { holds = member-among u (faninsAt fan count v); passes = among-member })
+      rw (fanins-in inputs nodes fan count v low) (decides-member u (faninsAt fan count v))
 
   decides-goes : (P : ℕ → Type 0) → ((v : ℕ) → P v → InArea net lab t v) → {free : List ℕ} → nodes ≤ length free → Marks nodes P free →
       (u : ℕ) → u < nodes → InArea net lab t u → (vs : List ℕ) → Below nodes vs →

@@ -11,30 +11,23 @@ use Rattle.theory.specs.Evidence.{peak, TruePath, joined}
 use Rattle.drawing.specs.Table.{netIn}
 use Rattle.drawing.specs.Bytes.{numberAt}
 use Rattle.walking.specs.Arrays.{Drawn, Ordered}
-use Rattle.walking.specs.Listing.{Tells}
+use Rattle.walking.specs.Listing.{Tells, faninsAt}
 use Rattle.walking.specs.Promises.{WalkRoom}
 use Rattle.area.specs.Area.{labelIn}
 use Rattle.covering.specs.Scratch.{Cleared}
 use Rattle.sheet.specs.declared.Form.{Form}
 use Rattle.sheet.specs.declared.Ruling.the-variants.{Sound}
 use Rattle.sheet.specs.Sheet.{Line, Sheet}
-use Rattle.sheet.specs.Shape.{Due, pathsAt, linePaths, lineRuling}
+use Rattle.sheet.specs.Shape.{pathsAt, linePaths, lineRuling, dueFrom}
 use Rattle.sheet.specs.Rules.{Rule, Found, FirstBroken, Keeps, lineOfNode, gateRules, gates}
 use Rattle.sheet.specs.Arrays.{HoldsLines, HoldsPlaces}
 use Rattle.judging.specs.declared.Judged.{Judged}
 use Rattle.judging.specs.declared.Judged.the-variants as judged
 use Rattle.judging.specs.Paths.{PathsStand}
 
--- the cut that arrays hold for a node
-abbrev pub cutIn : (leaves sizes : List ℕ) → ℕ → List ℕ
-cutIn leaves sizes v = take (getD sizes v 0) (drop (6 * v) leaves)
-
-abbrev pub dueOf : Form → (most k inputs nodes : ℕ) → Due
-dueOf form most k inputs nodes = record { form = form; most = most; k = k; inputs = inputs; nodes = nodes }
-
 -- where the line at `at` has its q, and the paths behind it; K, I and n have no part in that
 abbrev pub pathsPlace : Form → List ℕ → ℕ → ℕ
-pathsPlace form s at = linePaths (dueOf form 0 0 0 0) s at
+pathsPlace form s at = linePaths (dueFrom form 0 0 0 0) s at
 
 abbrev pub linePathsIn : Form → List ℕ → ℕ → List (List ℕ)
 linePathsIn form s at = pathsAt s (pathsPlace form s at + 1) (form .width) (numberAt s (pathsPlace form s at) 1)
@@ -81,7 +74,7 @@ pub record LabelAsked (labels leaves sizes : List ℕ) (t : ℕ) : Type 0 where
   pub labelled : t < length labels
   pub sized : t < length sizes
   pub placed : 6 * t + getD sizes t 0 ≤ length leaves
-  pub leaves-labelled : (v : ℕ) → List·Memᴰ v (cutIn leaves sizes t) → v < length labels
+  pub leaves-labelled : (v : ℕ) → List·Memᴰ v (faninsAt leaves sizes t) → v < length labels
 
 -- "1 + the greatest leaf label", and p or p + 1
 pub record LabelRight (lab : ℕ → ℕ) (leaves : List ℕ) (p t : ℕ) : Type 0 where
@@ -119,7 +112,7 @@ pub record Told (nodes : ℕ) (P : Type 0) (s : Scratch) (r : Bool) (s′ : Scra
 pub record LineStands (form : Form) (k inputs nodes : ℕ) (bytes : List ℕ) (at : ℕ) : Type 0 where
   pub most : ℕ
   pub narrow : form .width ≤ 8
-  pub sound : lineRuling (dueOf form most k inputs nodes) bytes at ≡ Sound
+  pub sound : lineRuling (dueFrom form most k inputs nodes) bytes at ≡ Sound
 
 pub record PathsRuleAsked (form : Form) (inputs nodes k : ℕ) (fan count order : List ℕ) (t : ℕ) (labels : List ℕ) (p : ℕ) (bytes : List ℕ) (at : ℕ) (s : Scratch) : Type 0 where
   pub at-gate : AtGate inputs nodes k fan count order t labels p s
@@ -161,7 +154,7 @@ linedOf form labels leaves sizes places bytes =
 
 pub record HoldsSheet (k inputs nodes : ℕ) (l : Lined) (most : ℕ) (lines : List Line) : Type 0 where
   pub in-arrays : HoldsLines inputs nodes lines (l .labels) (l .leaves) (l .sizes)
-  pub in-bytes : HoldsPlaces (dueOf (l .form) most k inputs nodes) (l .bytes) lines (l .places)
+  pub in-bytes : HoldsPlaces (dueFrom (l .form) most k inputs nodes) (l .bytes) lines (l .places)
 
 -- A drawing with its order, some lines of a sheet in the arrays, and marks.
 pub record JudgeAsked (k inputs nodes : ℕ) (fan count order : List ℕ) (l : Lined) (s : Scratch) : Type 0 where

@@ -6,7 +6,7 @@ use mathlib.Core.Bool.{Bool, true, false, _&&_}
 use mathlib.Core.List.{List, [], _∷_}
 use lib.ListN.{length, getD, set, drop}
 use lib.Dec.{ltb, eqb}
-use Rattle.walking.specs.Sweeps.{among}
+use Rattle.theory.specs.Lists.{isMember}
 use Rattle.walking.specs.Listing.{faninsAt}
 use Rattle.area.specs.Area.{Fed}
 use Rattle.sheet.specs.Shape.{idsAt, pathsAt, pathsUse, someEmpty, Below}
@@ -24,7 +24,7 @@ module _ (fan count ends : List ℕ) where
   -- from u the path "goes from fanin to gate", each node free, and "its last node" is an end
   unfoldable pub goesOn : (free : List ℕ) → ℕ → List ℕ → Bool
   goesOn free u [] = isMarked ends u
-  goesOn free u (v ∷ vs) = (among u (faninsAt fan count v) && isMarked free v) && goesOn (set free v 0) v vs
+  goesOn free u (v ∷ vs) = (isMember u (faninsAt fan count v) && isMarked free v) && goesOn (set free v 0) v vs
 
   module _ (inputs : ℕ) where
     -- "Each starts at an input"

@@ -9,7 +9,7 @@ ghost use Prim.Native.Nat.{_+_, _*_, _≤_, _<_};
 ghost use lib.ListN.{length, getD, set};
 ghost use Rattle.drawing.specs.Bytes.{numberAt};
 ghost use Rattle.theory.specs.Evidence.{joined};
-ghost use Rattle.walking.specs.Sweeps.{among};
+ghost use Rattle.theory.specs.Lists.{isMember};
 ghost use Rattle.walking.specs.Listing.{faninsAt};
 ghost use Rattle.sheet.specs.Shape.{idsAt, pathsAt};
 ghost use Rattle.judging.specs.Paths.{isMarked, goesOn, isPath, arePaths, GoesAsked, PathAsked, PathTold, PathsAsked, PathsTold};
@@ -47,7 +47,7 @@ fn take(free: &mut [u8], node: Node)
 fn feeds(fan: &[u16], count: &[u8], node: Node, gate: Node) -> bool
     requires { ⌜ gate .id < length (now count) ⌝ }
     requires { ⌜ 6 * gate .id + getD (now count) (gate .id) 0 ≤ length (now fan) ⌝ }
-    ensures { λ r. ⌜ r ≡ among (node .id) (faninsAt (now (fan .entry)) (now (count .entry)) (gate .id)) ⌝ }
+    ensures { λ r. ⌜ r ≡ isMember (node .id) (faninsAt (now (fan .entry)) (now (count .entry)) (gate .id)) ⌝ }
 {
     let m = fanin_count(count, gate);
     let mut i: usize = 0;
@@ -66,7 +66,7 @@ fn follows(fan: &[u16], count: &[u8], node: Node, next: Node, free: &[u8]) -> bo
     requires { ⌜ next .id < length (now count) ⌝ }
     requires { ⌜ 6 * next .id + getD (now count) (next .id) 0 ≤ length (now fan) ⌝ }
     requires { ⌜ next .id < length (now free) ⌝ }
-    ensures { λ r. ⌜ r ≡ (among (node .id) (faninsAt (now (fan .entry)) (now (count .entry)) (next .id)) && isMarked (now (free .entry)) (next .id)) ⌝ }
+    ensures { λ r. ⌜ r ≡ (isMember (node .id) (faninsAt (now (fan .entry)) (now (count .entry)) (next .id)) && isMarked (now (free .entry)) (next .id)) ⌝ }
 {
     if !feeds(fan, count, node, next) {
         return false;

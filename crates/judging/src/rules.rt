@@ -11,12 +11,12 @@ ghost use mathlib.Core.Path.{_≡_};
 ghost use Prim.Native.Nat.{suc, _+_, _≤_, _<_};
 ghost use lib.ListN.{length};
 ghost use Rattle.drawing.specs.Table.{netIn};
-ghost use Rattle.walking.specs.Listing.{Tells};
+ghost use Rattle.walking.specs.Listing.{Tells, faninsAt};
 ghost use Rattle.walking.specs.Promises.{CutRuled};
 ghost use Rattle.area.specs.Area.{labelIn};
 ghost use Rattle.sheet.specs.Shape.{pathsAt};
 ghost use Rattle.sheet.specs.Rules.{PathsKept};
-ghost use Rattle.judging.specs.Gates.{cutIn, pathsPlace, linePathsIn, scratchOf, CutAsked, LabelAsked, LabelRight, EvidenceAsked, TruePaths, Told, PathsRuleAsked};
+ghost use Rattle.judging.specs.Gates.{pathsPlace, linePathsIn, scratchOf, CutAsked, LabelAsked, LabelRight, EvidenceAsked, TruePaths, Told, PathsRuleAsked};
 
 // 25: are the leaves of the gate's line a cut of the gate?
 pub fn keeps_cut(
@@ -33,7 +33,7 @@ pub fn keeps_cut(
     met: &mut [u8],
 ) -> bool
     requires { ⌜ CutAsked inputs nodes (now fan) (now count) (now order) (gate .id) (now leaves) (now sizes) (now walked) (now met) ⌝ }
-    ensures { λ r. ⌜ CutRuled (netIn inputs nodes (now (fan .entry)) (now (count .entry))) (k .leaves) (cutIn (now (leaves .entry)) (now (sizes .entry)) (gate .id)) (gate .id) (now (walked .entry)) (now (met .entry)) r (now (walked .exit)) (now (met .exit)) ⌝ }
+    ensures { λ r. ⌜ CutRuled (netIn inputs nodes (now (fan .entry)) (now (count .entry))) (k .leaves) (faninsAt (now (leaves .entry)) (now (sizes .entry)) (gate .id)) (gate .id) (now (walked .entry)) (now (met .entry)) r (now (walked .exit)) (now (met .exit)) ⌝ }
 {
     let v = gate.id as usize;
     let from = 6 * v;
@@ -56,7 +56,7 @@ pub fn keeps_cut(
 // 26: is the gate's label 1 + the greatest label of its leaves, and p or p + 1?
 pub fn keeps_label(labels: &[u16], leaves: &[u16], sizes: &[u8], gate: Node, p: Label) -> bool
     requires { ⌜ LabelAsked (now labels) (now leaves) (now sizes) (gate .id) ⌝ }
-    ensures { λ r. ⌜ Tells (LabelRight (labelIn (now (labels .entry))) (cutIn (now (leaves .entry)) (now (sizes .entry)) (gate .id)) (p .depth) (gate .id)) r ⌝ }
+    ensures { λ r. ⌜ Tells (LabelRight (labelIn (now (labels .entry))) (faninsAt (now (leaves .entry)) (now (sizes .entry)) (gate .id)) (p .depth) (gate .id)) r ⌝ }
 {
     let v = gate.id as usize;
     let from = 6 * v;

@@ -2,11 +2,9 @@
 -- shallower.
 use Prim.Native.Nat.{ℕ, suc, _+_, _-_, _≤_, _<_}
 use native.Mathlib.Omega.{arith}
-use mathlib.Core.Path.{_≡_, refl, sym, ap, _∙_, subst}
-use mathlib.Core.Bool.{Bool, true, false, cond}
+use mathlib.Core.Path.{_≡_, refl, sym, _∙_, subst}
+use mathlib.Core.Bool.{true}
 use mathlib.Core.List.{List, [], _∷_, _++_, map, flatMap, List·Memᴰ, List·Memᴰ·head, List·Memᴰ·tail, Memᴰ·append-left, Memᴰ·append-right}
-use borrow.Author.Tests.{lt-ltb}
-use lib.ListN.{getD}
 use Rattle.theory.specs.Net.{Net, Gate, Input}
 use Rattle.theory.specs.Sound.{Bounded, Ranked}
 use Rattle.theory.specs.Walk.{Cut}
@@ -14,14 +12,16 @@ use Rattle.theory.specs.Values.{Values}
 use Rattle.theory.specs.Cover.{Luts, Wanted, Cover, Depths, Label}
 use Rattle.theory.specs.Lookup.{ConeTable, ObeysLuts}
 use Rattle.theory.specs.Lists.{greatest}
-use Rattle.theory.proofs.Rules.{Line, Lines, lines-are-labels}
+use Rattle.theory.specs.Evidence.{Lines}
+use Rattle.theory.proofs.Rules.{lines-are-labels}
 use Rattle.theory.proofs.MappersCovers.{no-cover-shallower}
-use Rattle.theory.proofs.Computes.{TablesFit, lutValue, lutValue-obeys, lutValue-inputs, luts-compute-outputs}
+use Rattle.theory.specs.Lookup.{TablesFit}
+use Rattle.theory.proofs.Computes.{lutValue, lutValue-obeys, lutValue-inputs, luts-compute-outputs}
 use Rattle.theory.proofs.Valuations.{valueOf, valueOf-obeys}
-use Rattle.sheet.specs.Sheet.{Lut, Sheet, noLine}
+use Rattle.sheet.specs.Sheet.{Lut, Sheet}
 use Rattle.sheet.specs.Rules.{Rule, Keeps, LabelKept, PathsKept, CoverKept, DepthKept, gateRules, lutRules, gates, from, rulesOf, lineOfNode, labelsOf, lutsOf, isListed, leavesListed, tableListed}
 use Rattle.keeping.specs.Right.{Roots, KeepsAll, Computes, Right}
-use Rattle.keeping.proofs.Listed.{member-flat, member-map, member-from, ListedLut, listed-lut, root-gate}
+use Rattle.keeping.proofs.Listed.{label-at-input, member-flat, member-map, member-from, ListedLut, listed-lut, root-gate}
 
 -- The rules that are tried, by where they stand in the list
 
@@ -38,12 +38,12 @@ module _ (net : Net) (sheet : Sheet) where
   by-cover : List Rule
   by-cover = map Rule.cover (gates net)
 
-  gate-rule : {t : ℕ} → Gate net t → {r : Rule} → List·Memᴰ r (gateRules (net .inputs) (sheet .lines) t) → List·Memᴰ r (rulesOf net sheet)
+  pub gate-rule : {t : ℕ} → Gate net t → {r : Rule} → List·Memᴰ r (gateRules (net .inputs) (sheet .lines) t) → List·Memᴰ r (rulesOf net sheet)
   unfolding by-luts by-cover
   gate-rule gate m =
       Memᴰ·append-left (Rule.depth ∷ []) (Memᴰ·append-left by-cover (Memᴰ·append-left by-luts (member-flat (gateRules (net .inputs) (sheet .lines)) (gate-listed gate) m)))
 
-  lut-rule : {lut : Lut} → List·Memᴰ lut (sheet .luts) → {r : Rule} → List·Memᴰ r (lutRules lut) → List·Memᴰ r (rulesOf net sheet)
+  pub lut-rule : {lut : Lut} → List·Memᴰ lut (sheet .luts) → {r : Rule} → List·Memᴰ r (lutRules lut) → List·Memᴰ r (rulesOf net sheet)
   unfolding by-gates by-cover
   lut-rule member m = Memᴰ·append-left (Rule.depth ∷ []) (Memᴰ·append-left by-cover (Memᴰ·append-right by-gates (member-flat lutRules member m)))
 
@@ -63,10 +63,10 @@ module _ (net : Net) (tables : ℕ → ℕ) (k : ℕ) (outputs : List ℕ) (shee
   lab = labelsOf (net .inputs) (sheet .lines)
 
   lines : Lines net k lab (λ t. lineOfNode (net .inputs) (sheet .lines) t .leaves) (λ t. lineOfNode (net .inputs) (sheet .lines) t .paths)
-  unfolding lineOfNode Keeps lab
+  unfolding Keeps lab
   lines =
       record {
-        inputs = λ v i. ap (λ (b : Bool). cond b noLine (getD (sheet .lines) (v - net .inputs) noLine) .label) (lt-ltb v (net .inputs) i);
+        inputs = λ v i. label-at-input (net .inputs) (sheet .lines) v i;
         gates = λ t gate.
             let cut : Cut net k t _ = kept (Rule.cut t _) (gate-rule net sheet gate (List·Memᴰ·head refl)) in
             let label : LabelKept net _ _ t = kept (Rule.label t) (gate-rule net sheet gate (List·Memᴰ·tail (List·Memᴰ·head refl))) in

@@ -1,5 +1,6 @@
 pub mod Listed
 pub mod Kept
+pub mod Longest
 pub mod Mappers
 pub mod Shaped
 pub mod One

@@ -1,4 +1,5 @@
--- Members of the lists that rules are tried along, and the LUT that a list of LUTs has for a root: where the roots rise, it is the only one.
+-- Members of the lists that rules are tried along, the line of a node, and the LUT that a list of LUTs has for a root: where the roots rise, it
+-- is the only one.
 use Prim.Native.Nat.{ℕ, zero, suc, _+_, _-_, _≤_, _<_}
 use native.Mathlib.Decide.{ℕ-discrete}
 use native.Mathlib.Omega.{arith}
@@ -6,11 +7,12 @@ use mathlib.Core.Path.{_≡_, refl, sym, ap, _∙_, subst}
 use mathlib.Core.Logic.{_⊎_, inl, inr, ⊎-elim}
 use mathlib.Core.Bool.{Bool, true, false, cond, _||_, false≢true}
 use mathlib.Core.List.{List, [], _∷_, _++_, map, flatMap, List·Memᴰ, List·Memᴰ·head, List·Memᴰ·tail, List·Memᴰ·not-nil, List·Memᴰ·cases-cons, List·Memᴰ·append-cases, Memᴰ·append-left, Memᴰ·append-right}
-use borrow.Author.Tests.{eq-eqb, ne-eqb}
+use borrow.Author.Tests.{lt-ltb, le-ltb, eq-eqb, ne-eqb}
+use lib.ListN.{getD}
 use lib.Dec.{eqb}
 use Rattle.theory.specs.Net.{Net, Gate}
-use Rattle.sheet.specs.Sheet.{Lut, Sheet}
-use Rattle.sheet.specs.Rules.{from, isListed, leavesListed, tableListed}
+use Rattle.sheet.specs.Sheet.{Line, Lut, Sheet, noLine}
+use Rattle.sheet.specs.Rules.{lineOfNode, labelsOf, from, isListed, leavesListed, tableListed}
 use Rattle.keeping.specs.Right.{Roots}
 
 module _ {A B : Type 0} (f : A → List B) where
@@ -31,6 +33,19 @@ member-from v (suc count) u low high = at (member-from (suc v) count u) (ℕ-dis
     at : (suc v ≤ u → u < suc v + count → List·Memᴰ u (from (suc v) count)) → Dec (u ≡ v) → List·Memᴰ u (v ∷ from (suc v) count)
     at later (yes e) = List·Memᴰ·head e
     at later (no other) = List·Memᴰ·tail (later (omega (arith, other)) (omega arith))
+
+-- The line of a node
+
+pub label-at-input : (inputs : ℕ) (lines : List Line) (v : ℕ) → v < inputs → labelsOf inputs lines v ≡ 0
+unfolding lineOfNode
+label-at-input inputs lines v low = ap (λ (b : Bool). cond b noLine (getD lines (v - inputs) noLine) .label) (lt-ltb v inputs low)
+
+-- that of the i-th gate
+pub line-at : (inputs : ℕ) (lines : List Line) (i : ℕ) → lineOfNode inputs lines (inputs + i) ≡ getD lines i noLine
+unfolding lineOfNode
+line-at inputs lines i =
+    ap (λ (b : Bool). cond b noLine (getD lines (inputs + i - inputs) noLine)) (le-ltb (inputs + i) inputs (omega arith))
+    ∙ ap (λ (j : ℕ). getD lines j noLine) (omega arith)
 
 -- The LUT listed for a root
 

@@ -5,10 +5,8 @@ use native.Mathlib.Omega.{arith}
 use native.Mathlib.Decide.{ℕ-discrete, decLt}
 use mathlib.Core.Path.{_≡_, refl, sym, ap, _∙_, subst}
 use mathlib.Core.Logic.{_⊎_, inl, inr, ⊎-elim}
-use mathlib.Core.Bool.{Bool, true, false, cond}
+use mathlib.Core.Bool.{true}
 use mathlib.Core.List.{List, [], _∷_, _++_, map, flatMap, List·Memᴰ, List·Memᴰ·not-nil, List·Memᴰ·cases-cons, List·Memᴰ·append-cases, List·Memᴰ·eq-of-singleton}
-use borrow.Author.Tests.{lt-ltb}
-use lib.ListN.{length, getD}
 use Rattle.theory.specs.Net.{Net, Gate, Input}
 use Rattle.theory.specs.Sound.{Bounded, Ranked}
 use Rattle.theory.specs.Walk.{Cut}
@@ -22,11 +20,11 @@ use Rattle.theory.proofs.MappersCuts.{mappers-cut-is-cut, mappers-cut-shows-lab
 use Rattle.theory.proofs.Depths.{Placed}
 use Rattle.theory.proofs.MappersCovers.{depth-is-label, cover-depth-is-label}
 use Rattle.covering.specs.Covers.{Needed}
-use Rattle.sheet.specs.Sheet.{Line, Lut, Sheet, noLine, noLut}
+use Rattle.sheet.specs.Sheet.{Lut, Sheet}
 use Rattle.sheet.specs.Rules.{Rule, Keeps, LabelKept, PathsKept, CoverKept, DepthKept, gateRules, lutRules, gates, from, rulesOf, lineOfNode, labelsOf, lutsOf, isListed, leavesListed, tableListed}
 use Rattle.keeping.specs.Right.{Roots, KeepsAll}
 use Rattle.keeping.specs.Mappers.{chosenBy, SheetWith}
-use Rattle.keeping.proofs.Listed.{ListedLut, listed-lut, root-gate, Stands, member-stands, flat-member, map-member, from-member}
+use Rattle.keeping.proofs.Listed.{label-at-input, ListedLut, listed-lut, root-gate, Stands, member-stands, flat-member, map-member, from-member}
 
 module _ {Asked : (ℕ → ℕ) → ℕ → List (List ℕ) → Type 0} (net : Net) (tables : ℕ → ℕ) (k : ℕ) (outputs : List ℕ) (sheet : Sheet) (bounded : Bounded net k)
     (ranked : Ranked net) (nodes : (v : ℕ) → List·Memᴰ v outputs → v < net .nodes) (mapper : SheetWith Asked net tables k outputs sheet) where
@@ -39,16 +37,12 @@ module _ {Asked : (ℕ → ℕ) → ℕ → List (List ℕ) → Type 0} (net : N
   luts : Luts
   luts = lutsOf (sheet .luts)
 
-  zero-at-input : {v : ℕ} → Input net v → labelsOf (net .inputs) (sheet .lines) v ≡ 0
-  unfolding lineOfNode
-  zero-at-input {v} i = ap (λ (b : Bool). cond b noLine (getD (sheet .lines) (v - net .inputs) noLine) .label) (lt-ltb v (net .inputs) i)
-
   pub mappers-labels : Labels net k outputs (labelsOf (net .inputs) (sheet .lines))
   mappers-labels v node =
-      ⊎-elim (λ (i : Input net v). subst (Label net k outputs v) (sym (zero-at-input i)) (Label.input i)) (λ (gate : Gate net v). mapper .labels v gate outputs)
+      ⊎-elim (λ (i : Input net v). subst (Label net k outputs v) (sym (label-at-input (net .inputs) (sheet .lines) v i)) (Label.input i)) (λ (gate : Gate net v). mapper .labels v gate outputs)
       (input-or-gate v node)
 
-  pub mappers-cut : {t : ℕ} → Gate net t → Cut net k t (lineOfNode (net .inputs) (sheet .lines) t .leaves)
+  mappers-cut : {t : ℕ} → Gate net t → Cut net k t (lineOfNode (net .inputs) (sheet .lines) t .leaves)
   mappers-cut {t} gate = mappers-cut-is-cut bounded ranked gate (mapper .cuts t gate)
 
   shows : {t : ℕ} → Gate net t → lab t ≡ suc (greatest (map lab (leaves t)))

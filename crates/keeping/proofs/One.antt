@@ -8,9 +8,9 @@ use mathlib.Core.Logic.{_⊎_, inl, inr, ⊎-elim}
 use mathlib.Core.Bool.{Bool, true, false, cond, _||_, false≢true}
 use mathlib.Mathlib.Data.Bool.Basic.{eq-false-of-not-eq-true}
 use mathlib.Core.List.{List, [], _∷_, map, List·Memᴰ, List·Memᴰ·head, List·Memᴰ·cases-cons}
-use borrow.Author.Tests.{lt-ltb, le-ltb, eq-eqb, ne-eqb}
+use borrow.Author.Tests.{lt-ltb, le-ltb, ne-eqb}
 use lib.ListN.{length, getD, List·getD-eq-default}
-use lib.Dec.{eqb, ltb}
+use lib.Dec.{eqb}
 use Rattle.theory.specs.Net.{Net, Gate}
 use Rattle.theory.specs.Sound.{Bounded, Ranked}
 use Rattle.theory.specs.Lists.{greatest}
@@ -26,7 +26,7 @@ use Rattle.sheet.specs.Rules.{lineOfNode, labelsOf, isListed, leavesListed, tab
 use Rattle.drawing.specs.Table.{Table}
 use Rattle.keeping.specs.Right.{Roots}
 use Rattle.keeping.specs.Mappers.{chosenBy, SheetWith}
-use Rattle.keeping.specs.Same.{SameLine, SameButEvidence}
+use Rattle.keeping.specs.Same.{SameButEvidence}
 use Rattle.keeping.specs.Printed.{listedLut, listedOutput, mappingOf}
 use Rattle.keeping.proofs.Listed.{ListedLut, listed-lut, root-gate, Stands, member-stands}
 use Rattle.keeping.proofs.Mappers.{mappers-cover}

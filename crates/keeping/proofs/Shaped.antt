@@ -2,35 +2,32 @@
 -- tables fit their rows.
 use Prim.Native.Nat.{ℕ, zero, suc, _+_, _-_, _^_, _≤_, _<_}
 use native.Mathlib.Omega.{arith}
-use native.Mathlib.Decide.{ℕ-discrete, decLe}
 use native.Mathlib.Nat.{lt-of-lt-of-le}
-use mathlib.Core.Path.{_≡_, refl, sym, ap, _∙_, subst}
-use mathlib.Core.Logic.{_⊎_, inl, inr, ⊎-elim}
-use mathlib.Core.Bool.{Bool, true, false, cond}
-use mathlib.Core.List.{List, [], _∷_, map, List·Memᴰ, List·Memᴰ·head, List·Memᴰ·tail}
-use borrow.Author.Tests.{le-ltb}
+use mathlib.Core.Path.{subst}
+use mathlib.Core.Logic.{⊎-elim}
+use mathlib.Core.List.{List, map, List·Memᴰ}
 use lib.ListN.{length, getD}
 use lib.Pow.{pow-mono}
 use Rattle.theory.specs.Net.{Net, Gate, Input}
 use Rattle.theory.specs.Sound.{Bounded, Ranked}
-use Rattle.theory.specs.Walk.{Cut}
 use Rattle.theory.specs.Lists.{greatest}
-use Rattle.theory.specs.Evidence.{peak, Owes}
-use Rattle.theory.specs.Lookup.{ConeTable}
+use Rattle.theory.specs.Evidence.{peak}
 use Rattle.theory.proofs.Ranks.{by-rank}
 use Rattle.theory.proofs.Members.{greatest-at-most, some-member}
 use Rattle.theory.proofs.Walks.{input-or-gate}
 use Rattle.theory.proofs.FlowMap.{Labels, label-peaked, label-positive, labels-at-inputs}
 use Rattle.sheet.specs.declared.Form.{Form}
-use Rattle.sheet.specs.Sheet.{Line, Lut, Sheet, noLine, noLut}
-use Rattle.sheet.specs.Rules.{PathsKept, lineOfNode, labelsOf}
-use Rattle.sheet.specs.Longest.{Backed, Drawing, Kept}
+use Rattle.sheet.specs.Sheet.{Line, Lut, Sheet, noLut}
+use Rattle.sheet.specs.Rules.{labelsOf}
+use Rattle.sheet.specs.Longest.{Drawing, Kept}
 use Rattle.sheet.specs.Shape.{Shaped}
 use Rattle.sheet.proofs.Shapes.{dueFor, Fitting, Numbered, sheet-shaped}
 use Rattle.keeping.specs.Right.{Roots}
 use Rattle.keeping.specs.Mappers.{MappersSheet}
 use Rattle.keeping.proofs.Listed.{root-gate}
-use Rattle.keeping.proofs.Mappers.{mappers-labels, mappers-cut, lut-cut, lut-function}
+use Rattle.keeping.proofs.Longest.{lut-member, rules-bound}
+use Rattle.keeping.proofs.Mappers.{mappers-labels, lut-cut, lut-function, mappers-sheet-keeps}
+pub use Rattle.keeping.proofs.Listed.{line-at}
 
 -- a label is at most the rank
 module _ {net : Net} {k : ℕ} {outputs : List ℕ} {lab : ℕ → ℕ} (bounded : Bounded net k) (ranked : Ranked net) (labels : Labels net k outputs lab) where
@@ -54,11 +51,6 @@ module _ {net : Net} {k : ℕ} {outputs : List ℕ} {lab : ℕ → ℕ} (bounded
       (λ t below node. ⊎-elim (λ (i : Input net t). omega (arith, labels-at-inputs bounded ranked labels t i)) (low-at-gate t below) (input-or-gate t node))
 
 -- LUTs by their place in the list
-lut-member : (luts : List Lut) (i : ℕ) → i < length luts → List·Memᴰ (getD luts i noLut) luts
-lut-member [] i inside = absurd (omega arith)
-lut-member (lut ∷ luts) zero inside = List·Memᴰ·head refl
-lut-member (lut ∷ luts) (suc i) inside = List·Memᴰ·tail (lut-member luts i (omega arith))
-
 roots-few : {nodes least : ℕ} {luts : List Lut} → Roots nodes least luts → least ≤ nodes → least + length luts ≤ nodes
 roots-few Roots.none low = omega arith
 roots-few (Roots.more above below rest) low = omega (arith, roots-few rest (omega arith))
@@ -73,13 +65,6 @@ roots-rise Roots.none i inside = absurd (omega arith)
 roots-rise (Roots.more above below rest) zero inside = first-root rest (omega arith)
 roots-rise (Roots.more above below rest) (suc i) inside = roots-rise rest i (omega arith)
 
--- the line of the i-th gate
-pub line-at : (inputs : ℕ) (lines : List Line) (i : ℕ) → lineOfNode inputs lines (inputs + i) ≡ getD lines i noLine
-unfolding lineOfNode
-line-at inputs lines i =
-    ap (λ (b : Bool). cond b noLine (getD lines (inputs + i - inputs) noLine)) (le-ltb (inputs + i) inputs (omega arith))
-    ∙ ap (λ (j : ℕ). getD lines j noLine) (omega arith)
-
 module _ (net : Net) (tables : ℕ → ℕ) (k : ℕ) (outputs : List ℕ) (sheet : Sheet) (drawing : Drawing net k) (ranked : Ranked net)
     (nodes : (v : ℕ) → List·Memᴰ v outputs → v < net .nodes) (mapper : MappersSheet net tables k outputs sheet) where
   lab : ℕ → ℕ
@@ -92,32 +77,11 @@ module _ (net : Net) (tables : ℕ → ℕ) (k : ℕ) (outputs : List ℕ) (shee
   gate-at : (i : ℕ) → i < length (sheet .lines) → Gate net (net .inputs + i)
   gate-at i inside = record { above = omega arith; below = omega (arith, mapper .gates) }
 
-  backed : {t : ℕ} {paths : List (List ℕ)} → PathsKept net k lab t paths → Backed net k lab t paths
-  backed {t} {paths} kept = by (ℕ-discrete (lab t) (suc (peak net lab t))) (decLe 1 (peak net lab t))
-    where
-      none : paths ≡ [] → Backed net k lab t paths
-      none e = subst (Backed net k lab t) (sym e) Backed.bare
-
-      by : Dec (lab t ≡ suc (peak net lab t)) → Dec (1 ≤ peak net lab t) → Backed net k lab t paths
-      by (yes above) (yes some) = Backed.proven some (kept .due (record { above = above; some = some }))
-      by (no other) _ = none (kept .not-due (λ (owes : Owes net lab t). other (owes .above)))
-      by (yes above) (no less) = none (kept .not-due (λ (owes : Owes net lab t). less (owes .some)))
-
   -- what bounds the length of a sheet
   pub mappers-kept : Kept net k (labelsOf (net .inputs) (sheet .lines)) sheet
-  unfolding lab
   mappers-kept =
-      record {
-        inputs = labels-at-inputs (drawing .bounded) ranked labels;
-        gates = mapper .gates;
-        cuts = λ i inside.
-            subst (λ (l : Line). Cut net k (net .inputs + i) (l .leaves)) (line-at (net .inputs) (sheet .lines) i)
-            (mappers-cut net tables k outputs sheet (drawing .bounded) ranked nodes mapper (gate-at i inside));
-        backed = λ i inside.
-            subst (λ (l : Line). Backed net k lab (net .inputs + i) (l .paths)) (line-at (net .inputs) (sheet .lines) i) (backed (mapper .evidence (net .inputs + i) (gate-at i inside)));
-        few = omega (arith, roots-few (mapper .roots) (drawing .bounded .span), mapper .gates);
-        lut-cuts = λ i inside. lut-cut net tables k outputs sheet (drawing .bounded) ranked nodes mapper (getD (sheet .luts) i noLut) (lut-member (sheet .luts) i inside);
-      }
+      rules-bound net tables k outputs sheet (mapper .gates) (omega (arith, roots-few (mapper .roots) (drawing .bounded .span), mapper .gates))
+      (mappers-sheet-keeps net tables k outputs sheet (drawing .bounded) ranked nodes mapper (mapper .evidence))
 
   module _ (most : ℕ) (few : k ≤ 6) (small : (v : ℕ) → v < net .nodes → ranked .rank v ≤ most) where
     low : (v : ℕ) → v < net .nodes → lab v ≤ most

@@ -1,22 +1,22 @@
 -- A table that reads whole and has no loop is a drawing: K-bounded, in the paper's numbers, with a rank no greater than the number of gates.
-use Prim.Native.Nat.{ℕ, suc, _+_, _-_, _≤_, _<_}
+use Prim.Native.Nat.{ℕ, _-_, _≤_, _<_}
 use native.Mathlib.Omega.{arith}
-use mathlib.Core.Path.{_≡_, refl, sym, ap, _∙_, subst}
-use mathlib.Core.Logic.{_⊎_, ⊎-elim}
+use mathlib.Core.Path.{_≡_, refl, ap, _∙_}
+use mathlib.Core.Logic.{⊎-elim}
 use mathlib.Core.Bool.{Bool, true, cond}
 use mathlib.Core.List.{List, [], List·Memᴰ}
 use borrow.Author.Tests.{le-ltb}
-use lib.ListN.{length, getD, replicate, List·getD-eq-default}
+use lib.ListN.{getD, replicate, List·getD-eq-default}
 use Rattle.theory.specs.Net.{Net, Gate, Input}
 use Rattle.theory.specs.Walk.{Loop}
 use Rattle.theory.specs.Sound.{Bounded, Ranked}
 use Rattle.theory.proofs.Walks.{input-or-gate, no-loop}
 use Rattle.drawing.specs.declared.Verdict.the-variants.{Sound}
-use Rattle.drawing.specs.Fields.{headK, headI, headG}
-use Rattle.drawing.specs.Table.{GateLine, netOf, tablesOf, noGate, lineOf}
+use Rattle.drawing.specs.Fields.{headK, headI}
+use Rattle.drawing.specs.Table.{GateLine, netOf, noGate}
 use Rattle.drawing.specs.Reading.{Arrays, arraysOf, enough, found, tableOf, nodesOf}
 use Rattle.drawing.proofs.SoundTables.{SoundTable, table-sound}
-use Rattle.drawing.proofs.Held.{Holds, whole-holds}
+use Rattle.drawing.proofs.Held.{whole-holds}
 use Rattle.walking.specs.declared.Ordering.the-variants.{Whole}
 use Rattle.walking.specs.Arrays.{Ordered}
 use Rattle.walking.specs.Promises.{LoopRuling}

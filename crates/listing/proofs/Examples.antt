@@ -1,8 +1,8 @@
--- The paper's own texts, computed.
+-- Texts and arrays that the computed table of P1 to P9 has no case of.
 use mathlib.Core.Path.{_≡_, refl}
 use mathlib.Core.List.{[], _∷_, _++_}
 use lib.ListN.{replicate}
-use Rattle.listing.specs.Text.{Mapping, bytes, digit, digits, placesWithin, places, decimal, hex16, numbered, each, leafText, headLine, lutLine, outputLine, listingOf, refusedLine, acceptedLine}
+use Rattle.listing.specs.Text.{Mapping, bytes, digit, digits, placesWithin, places, decimal, hex16, numbered, refusedLine, acceptedLine}
 use Rattle.listing.specs.Arrays.{arraysOf, mappingIn, lutAt, outputAt, markedFrom}
 
 -- "P1. K=3, I=4; 4=AND(0,1), 5=AND(2,3), 6=OR(4,5); output 6."
@@ -21,13 +21,7 @@ p1 =
       outputs = record { node = 6; depth = 2 } ∷ [];
     }
 
-p1-listed :
-    listingOf p1
-    ≡ bytes "K 3 inputs 4 gates 3 luts 3 depth 2\nlut 4 depth 1 leaves 0 1 table 0000000000000008\nlut 5 depth 1 leaves 2 3 table 0000000000000008\nlut 6 depth 2 leaves 4 5 table 000000000000000E\noutput 6 depth 2\n"
-unfolding p1 digit digits placesWithin places decimal hex16 numbered each leafText headLine lutLine outputLine listingOf
-p1-listed = refl
-
--- the same mapping as arrays hold it: labels, six places a node for leaves, sizes, marks, tables, outputs
+-- P1's mapping as arrays hold it: labels, six places a node for leaves, sizes, marks, tables, outputs
 p1-in-arrays :
     mappingIn 3 4 7
     (arraysOf
@@ -42,9 +36,9 @@ p1-in-arrays :
 unfolding p1 lutAt outputAt markedFrom
 p1-in-arrays = refl
 
-one-line-each : (refusedLine 7 2 ≡ bytes "refused 7 at 2\n") × (refusedLine 27 6 ≡ bytes "refused 27 at 6\n") × (acceptedLine 2 ≡ bytes "accepted depth 2\n")
+one-line-each : (refusedLine 27 6 ≡ bytes "refused 27 at 6\n") × (acceptedLine 2 ≡ bytes "accepted depth 2\n")
 unfolding digit digits placesWithin places decimal numbered refusedLine acceptedLine
-one-line-each = (refl, refl, refl)
+one-line-each = (refl, refl)
 
 -- numbers of one digit, of several, the largest that fits 64 bits, and a table with each digit
 numbers-written :

@@ -1,5 +1,5 @@
 -- Digits grow by one at the end, and a number has no more digits than its bound says.
-use Prim.Native.Nat.{ℕ, zero, suc, _+_, _*_, _/_, _%_, _^_, _<_, _≤_}
+use Prim.Native.Nat.{ℕ, zero, suc, _+_, _/_, _%_, _^_, _<_, _≤_}
 use mathlib.Core.Path.{_≡_, refl, ap, sym, _∙_}
 use mathlib.Core.Bool.{Bool, true, false}
 use mathlib.Core.List.{List, [], _∷_, _++_}
@@ -10,7 +10,7 @@ use borrow.Author.Tests.{lt-ltb, le-ltb, ltb-true, ltb-false}
 use lib.Dec.{ltb}
 use lib.ListN.{length, set, length-append}
 use lib.Seq.{sets}
-use Rattle.listing.specs.Text.{digit, digits, placesWithin, places, decimal, hex16, numbered}
+use Rattle.listing.specs.Text.{digit, digits, placesWithin, places, decimal, hex16}
 use Rattle.listing.proofs.Puts.{sets-before}
 
 pub digits-size : (base count n : ℕ) → length (digits base count n) ≡ count

@@ -1,19 +1,14 @@
 -- Bytes put one run after the other are one run, and what is left to put after some of it is what the loops keep.
-use Prim.Native.Nat.{ℕ, zero, suc, _+_, _<_, _≤_}
+use Prim.Native.Nat.{ℕ, suc, _+_, _<_, _≤_}
 use mathlib.Core.Path.{_≡_, refl, ap, sym, _∙_}
 use mathlib.Core.List.{List, [], _∷_, _++_}
 use native.Mathlib.Nat.{add-zero, suc-add, add-suc}
 use native.Mathlib.Numerals.{add-one}
 use native.Mathlib.Omega.{arith}
-use lib.ListN.{length, getD, set, drop, length-set, length-append}
+use lib.ListN.{length, getD, set, drop, length-append}
 use lib.Seq.{sets, length-sets, sets-eq, set-comm, drop-cons}
 use Rattle.listing.specs.Puts.{Put, Wrote}
-
-sets-append : (l : List ℕ) (i : ℕ) (xs ys : List ℕ) → sets (sets l i xs) (i + length xs) ys ≡ sets l i (xs ++ ys)
-sets-append l i [] ys = ap (λ (j : ℕ). sets l j ys) (add-zero i)
-sets-append l i (a ∷ xs) ys =
-    ap (λ (j : ℕ). sets (sets (set l i a) (suc i) xs) j ys) (add-suc i (length xs) ∙ sym (suc-add i (length xs)))
-    ∙ sets-append (set l i a) (suc i) xs ys
+use Rattle.drawing.proofs.Stores.{sets-append}
 
 -- a store behind a run can come before it
 pub sets-before : (l : List ℕ) (i : ℕ) (xs : List ℕ) (b : ℕ) → sets (set l (i + length xs) b) i xs ≡ sets l i (xs ++ (b ∷ []))

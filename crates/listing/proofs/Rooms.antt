@@ -9,8 +9,8 @@ use borrow.Author.Tests.{eqb-true}
 use lib.Dec.{eqb}
 use lib.ListN.{length, getD, take, drop, length-append, length-take}
 use lib.Seq.{getD-take, getD-drop}
-use Rattle.listing.specs.Text.{bytes, decimal, hex16, numbered, each, leafText, headLine, lutLine, outputLine, refusedLine, acceptedLine}
-use Rattle.listing.specs.Arrays.{Arrays, lutAt, outputAt, lutText, outputText, marked, markedFrom, Held, room}
+use Rattle.listing.specs.Text.{bytes, decimal, numbered, each, leafText, headLine, lutLine, outputLine, refusedLine, acceptedLine}
+use Rattle.listing.specs.Arrays.{Arrays, lutAt, outputAt, lutText, outputText, markedFrom, Held, room}
 use Rattle.listing.proofs.Numbers.{places-most, decimal-size, hex16-size}
 
 -- a word with a number of at most k digits

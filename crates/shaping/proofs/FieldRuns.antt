@@ -51,12 +51,13 @@ module _ (due : Due) (s : List ℕ) where
   unfolding lutRuling
   lut-kept least at sound = field-kept s at (due .form .lut) sound
 
-  pub head-inside : headRuling due s ≡ Sound → 4 + due .form .width + due .form .width ≤ length s
-  head-inside sound =
-      let kept = head-kept sound in
+  pub head-size : headRuling due s ≡ Sound → lengthAt s 0 ≡ 1 + due .form .width + due .form .width
+  head-size sound =
       let w = due .form .width in
-      let size : lengthAt s 0 ≡ 1 + w + w = eqb-true (lengthAt s 0) (1 + w + w) (not-false (eqb (lengthAt s 0) (1 + w + w)) (kept .right)) in
-      omega (arith, size, field-inside s 0 (due .form .head) kept)
+      eqb-true (lengthAt s 0) (1 + w + w) (not-false (eqb (lengthAt s 0) (1 + w + w)) (head-kept sound .right))
+
+  pub head-inside : headRuling due s ≡ Sound → 4 + due .form .width + due .form .width ≤ length s
+  head-inside sound = omega (arith, head-size sound, field-inside s 0 (due .form .head) (head-kept sound))
 
   pub head-end : headRuling due s ≡ Sound → endAt s 0 ≤ length s
   head-end sound = field-inside s 0 (due .form .head) (head-kept sound)

@@ -1,10 +1,10 @@
 -- Arrays filled from one entry to another: entry by entry, run by run, and for nodes one at a time.
-use Prim.Native.Nat.{ℕ, suc, _+_, _*_, _-_, _/_, _%_, _<_, _≤_}
+use Prim.Native.Nat.{ℕ, _+_, _*_, _-_, _/_, _%_, _<_, _≤_}
 use native.Mathlib.Omega.{arith}
 use mathlib.Core.Path.{_≡_, refl, ap, sym, subst, _∙_}
 use mathlib.Core.List.{List}
-use lib.ListN.{length, getD, set, take, drop, length-set, length-take, length-drop}
-use lib.Seq.{getD-set-same, getD-set-other, getD-take, getD-drop, ext-getD}
+use lib.ListN.{length, getD, set, length-set}
+use lib.Seq.{getD-set-same, getD-set-other, ext-getD}
 use native.Mathlib.Decide.{decLe}
 use Rattle.theory.specs.Values.{bit}
 use Rattle.drawing.specs.Bytes.{numberAt}

@@ -3,19 +3,18 @@ use Prim.Native.Nat.{ℕ, zero, suc, _+_, _-_, _^_, _<_, _≤_}
 use native.Mathlib.Omega.{arith}
 use mathlib.Core.Path.{_≡_, refl, ap, sym, _∙_}
 use mathlib.Core.Bool.{Bool, true, false, _||_, cond}
-use mathlib.Core.List.{List, [], _∷_}
-use borrow.Author.Tests.{lt-ltb, le-ltb, eq-eqb, ne-eqb, ltb-false, leb-false}
+use mathlib.Core.List.{List, _∷_}
+use borrow.Author.Tests.{lt-ltb, le-ltb, eq-eqb, ne-eqb, ltb-false}
 use lib.ListN.{length, getD}
-use lib.Dec.{ltb, leb, eqb}
+use lib.Dec.{ltb, leb}
 use Rattle.drawing.specs.Bytes.{numberAt, valueAt}
-use Rattle.sheet.specs.declared.Fault.{Fault}
 use Rattle.sheet.specs.declared.Fault.the-variants.{Extra}
 use Rattle.sheet.specs.declared.Ruling.{Ruling}
 use Rattle.sheet.specs.declared.Ruling.the-variants.{Sound, Faulty}
 use Rattle.sheet.specs.Sheet.{Line, Lut, Sheet, noLine}
-use Rattle.sheet.specs.Shape.{Due, endAt, depthAt, countAt, headRuling, lineAt, lineRuling, lutAt, lutRuling, leavesRange, lutRange, Fields, andField, linesFrom, lutsFrom, afterHead, afterLines, afterLuts, reading}
+use Rattle.sheet.specs.Shape.{Due, endAt, depthAt, countAt, headRuling, lineAt, lineRuling, lutAt, lutRuling, leavesRange, Fields, andField, linesFrom, lutsFrom, afterHead, afterLines, afterLuts, reading}
 use Rattle.sheet.specs.Rules.{lineOfNode, isListed, leavesListed, tableListed}
-use Rattle.shaping.specs.Loading.{startOf, placeOf, LineArrays, LineRoom, LinePut, LinesFilled, Listed, noneListed, lutListed, listedAt, LutArrays, LutsFilled}
+use Rattle.shaping.specs.Loading.{startOf, placeOf, LineArrays, LineRoom, LinePut, LinesFilled, noneListed, lutListed, listedAt, LutArrays, LutsFilled}
 use Rattle.shaping.specs.Terms.{Narrow}
 use Rattle.shaping.specs.Turns.{LineReady, GatesLoaded, nextRoot, LutsLeft}
 use Rattle.shaping.proofs.Rulings.{not-sound}

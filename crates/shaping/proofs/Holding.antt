@@ -4,7 +4,7 @@ use native.Mathlib.Decide.{decLt}
 use native.Mathlib.Omega.{arith}
 use mathlib.Core.Path.{_≡_, ap, sym, _∙_}
 use mathlib.Core.Bool.{Bool, true, false, not, _||_, cond}
-use mathlib.Core.List.{List, [], _∷_}
+use mathlib.Core.List.{List}
 use borrow.Author.Tests.{ltb-false}
 use lib.ListN.{length, getD, take, drop, length-drop}
 use lib.Seq.{length-take-le, getD-take, getD-drop, ext-getD}
@@ -12,7 +12,7 @@ use lib.Dec.{ltb, leb, eqb}
 use Rattle.theory.specs.Evidence.{joined}
 use Rattle.drawing.specs.Bytes.{someFrom}
 use Rattle.sheet.specs.declared.Ruling.the-variants.{Sound}
-use Rattle.sheet.specs.Sheet.{Line, Lut, Sheet, noLine}
+use Rattle.sheet.specs.Sheet.{Line, Lut, Sheet}
 use Rattle.sheet.specs.Shape.{Due, endAt, rising, someEmpty, leavesRange, lineRange, lutRange, lineAt, lutAt, lineRuling, lutRuling, countAt, lutsFrom, reading}
 use Rattle.sheet.specs.Rules.{lineOfNode, leavesListed}
 use Rattle.sheet.specs.Arrays.{HoldsLines, HoldsPlaces, HoldsLuts}

@@ -6,3 +6,4 @@ pub mod FieldRuns
 pub mod Filling
 pub mod Found
 pub mod Holding
+pub mod Lengths

@@ -3,12 +3,12 @@ use Prim.Native.Nat.{ℕ, zero, suc, _+_, _*_, _-_, _<_, _≤_}
 use native.Mathlib.Omega.{arith}
 use mathlib.Core.Path.{_≡_, refl, ap, sym, _∙_}
 use mathlib.Core.Bool.{Bool, true, false, not, _||_, _&&_, or-true}
-use mathlib.Core.List.{List, [], _∷_, _++_}
-use borrow.Author.Tests.{le-leb, lt-leb, leb-true, eq-eqb, ne-eqb, eqb-true, not-true, not-false}
+use mathlib.Core.List.{List, _∷_}
+use borrow.Author.Tests.{le-leb, lt-leb, eq-eqb, ne-eqb, eqb-true, not-true, not-false}
 use lib.ListN.{length}
 use lib.Dec.{leb, eqb}
 use Rattle.theory.specs.Evidence.{joined}
-use Rattle.drawing.specs.Bytes.{numberAt, someFrom}
+use Rattle.drawing.specs.Bytes.{someFrom}
 use Rattle.drawing.proofs.Digits.{some-from-append}
 use Rattle.sheet.specs.Shape.{idsAt, pathEnd, pathsAt, pathsUse, someEmpty}
 use Rattle.shaping.specs.Numbers.{SmallAt, pathsEnd}

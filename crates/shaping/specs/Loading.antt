@@ -7,8 +7,8 @@ use lib.ListN.{length, getD, set}
 use lib.Dec.{ltb}
 use Rattle.theory.specs.Values.{bit}
 use Rattle.sheet.specs.declared.Ruling.the-variants.{Sound}
-use Rattle.sheet.specs.Sheet.{Line, Lut, noLine}
-use Rattle.sheet.specs.Shape.{Due, endAt, countAt, depthAt, lineRuling, lutRuling, linesFrom, lutsFrom, reading}
+use Rattle.sheet.specs.Sheet.{Line, Lut}
+use Rattle.sheet.specs.Shape.{Due, endAt, reading}
 use Rattle.sheet.specs.Rules.{lineOfNode, isListed, leavesListed, tableListed}
 use Rattle.shaping.specs.Terms.{Narrow}
 

@@ -8,7 +8,7 @@ use lib.Dec.{eqb}
 use Rattle.drawing.specs.Bytes.{numberAt, valueAt}
 use Rattle.sheet.specs.declared.Ruling.the-variants.{Sound}
 use Rattle.sheet.specs.Sheet.{Lut}
-use Rattle.sheet.specs.Shape.{Due, endAt, leavesEnd, lineCut, lutCut, lineRuling, lutsFrom, reading}
+use Rattle.sheet.specs.Shape.{Due, endAt, leavesEnd, lineCut, lutCut, lutsFrom, reading}
 use Rattle.shaping.specs.declared.loading.Turn.{Turn}
 use Rattle.shaping.specs.Terms.{Narrow}
 use Rattle.shaping.specs.Loading.{startOf, LineArrays, LinesFilled, LutArrays, LutPut, listedAt}

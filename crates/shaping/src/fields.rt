@@ -15,8 +15,7 @@ ghost use Prim.Native.Nat.{_+_, _≤_};
 ghost use lib.ListN.{length};
 ghost use lib.Dec.{eqb};
 ghost use Rattle.drawing.specs.Rules.{first};
-ghost use Rattle.drawing.specs.Bytes.{lengthAt, numberAt};
-ghost use Rattle.sheet.specs.Shape.{fieldRules, endAt, headRange, depthAt, countAt, headRuling, lineRange, lineAt, lineLengthWrong, lineRuling, lutRange, lutAt, lutLengthWrong, lutRuling};
+ghost use Rattle.sheet.specs.Shape.{fieldRules, endAt, headRuling, lineRange, lineAt, lineLengthWrong, lineRuling, lutRange, lutAt, lutLengthWrong, lutRuling};
 ghost use Rattle.shaping.specs.Terms.{dueOf, Narrow};
 ghost use Rattle.shaping.specs.Fields.{headLengthWrong, headOutOfRange, valueRules};
 

@@ -23,8 +23,8 @@ use sheet::Ruling;
 ghost use mathlib.Core.Path.{_≡_};
 ghost use Prim.Native.Nat.{_≤_};
 ghost use lib.ListN.{length};
-ghost use Rattle.sheet.specs.Shape.{reading, headRuling, endAt};
-ghost use Rattle.shaping.specs.Terms.{dueOf, dueFrom, Narrow};
+ghost use Rattle.sheet.specs.Shape.{dueFrom, reading, headRuling};
+ghost use Rattle.shaping.specs.Terms.{dueOf, Narrow};
 ghost use Rattle.shaping.specs.Loading.{lineArrays, LineRoom, lutArrays, LutRoom, Loadable, Loaded};
 ghost use Rattle.shaping.specs.Judging.{afterHeadRuling, afterLinesRuling};
 

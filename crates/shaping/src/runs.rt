@@ -6,7 +6,6 @@ use crate::numbers::small_at;
 use crate::reader::passed;
 use sheet::Fault;
 use sheet::Ruling;
-ghost use mathlib.Core.Path.{_≡_};
 ghost use Prim.Native.Nat.{_-_, _≤_};
 ghost use lib.ListN.{length};
 ghost use Rattle.sheet.specs.Shape.{linesFrom, lutsFrom};

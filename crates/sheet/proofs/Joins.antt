@@ -3,7 +3,7 @@
 use Prim.Native.Nat.{ℕ, _+_, _≤_}
 use native.Mathlib.Omega.{arith}
 use mathlib.Core.Path.{_≡_, ap, sym, _∙_}
-use mathlib.Core.List.{List, [], _∷_, _++_, flatMap, append-assoc, append-nil}
+use mathlib.Core.List.{List, _∷_, _++_, flatMap, append-assoc}
 use lib.ListN.{length, drop}
 use lib.Seq.{sets-eq}
 use Rattle.sheet.specs.declared.Form.{Form}
@@ -11,14 +11,9 @@ use Rattle.sheet.specs.Sheet.{Sheet, lineOf}
 use Rattle.sheet.specs.Encoding.{pathBytes, lineFront, headField, lineField, lutField, encode}
 use Rattle.sheet.specs.Writing.{Room, Written, Closed, lineBegun}
 use Rattle.sheet.proofs.Numbers.{flat-append}
-use Rattle.sheet.proofs.Writes.{written-as, room-first, room-then, closing-room, closed, field-room}
+use Rattle.sheet.proofs.Writes.{room-first, room-then, closing-room, closed, field-room}
 
 module _ {A : Type 0} (f : A → List ℕ) {before : List ℕ} {at : ℕ} (front : List ℕ) where
-  -- before the first part of a run
-  pub written-none : {middle : List ℕ} {next : ℕ} → Written before at front middle next → Written before at (front ++ flatMap f []) middle next
-  unfolding flatMap
-  written-none w = written-as (sym (append-nil front)) w
-
   -- where the whole run has room, the next part has
   pub next-room : (done : List A) (x : A) (later : List A) {middle : List ℕ} {next : ℕ} →
       Room before at (front ++ flatMap f (done ++ (x ∷ later))) → Written before at (front ++ flatMap f done) middle next → Room middle next (f x)

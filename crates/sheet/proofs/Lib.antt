@@ -7,3 +7,4 @@ pub mod Joins
 pub mod Standing
 pub mod RoundTrip
 pub mod Shapes
+pub mod Firsts

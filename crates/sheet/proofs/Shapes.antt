@@ -19,12 +19,12 @@ use Rattle.sheet.specs.declared.Form.{Form}
 use Rattle.sheet.specs.Sheet.{Line, Lut, Sheet, noLine, noLut}
 use Rattle.sheet.specs.Encoding.{narrow, lineValue}
 use Rattle.sheet.specs.Longest.{Backed, Drawing, Kept, lineMost}
-use Rattle.sheet.specs.Shape.{Due, Below, rising, someEmpty, leavesRange, LineShaped, LutShaped, LinesShaped, LutsShaped, Shaped}
+use Rattle.sheet.specs.Shape.{Due, Below, rising, someEmpty, leavesRange, LineShaped, LutShaped, LinesShaped, LutsShaped, Shaped, dueFrom}
 use Rattle.sheet.proofs.Lengths.{length-field}
 use Rattle.sheet.proofs.Longest.{ids-few, line-short, on-a-path}
 
 abbrev pub dueFor : Form → (most k : ℕ) → Net → Due
-dueFor form most k net = record { form = form; most = most; k = k; inputs = net .inputs; nodes = net .nodes }
+dueFor form most k net = dueFrom form most k (net .inputs) (net .nodes)
 
 -- the numbers of such a drawing's sheets fit their bytes
 pub record Fitting (form : Form) (most k nodes : ℕ) : Type 0 where

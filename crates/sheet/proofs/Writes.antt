@@ -2,7 +2,7 @@
 use Prim.Native.Nat.{ℕ, suc, _+_, _-_, _/_, _%_, _^_, _<_, _≤_}
 use mathlib.Core.Path.{_≡_, refl, ap, sym, _∙_}
 use mathlib.Core.List.{List, [], _∷_, _++_, flatMap, append-assoc}
-use native.Mathlib.Nat.{add-zero, suc-add, add-suc, div-one}
+use native.Mathlib.Nat.{div-one}
 use native.Mathlib.Numerals.{add-one}
 use native.Mathlib.Omega.{arith}
 use lib.ListN.{length, set, length-append, length-set}
@@ -10,6 +10,7 @@ use lib.Seq.{sets, length-sets, set-comm, set-set}
 use Rattle.sheet.specs.Encoding.{digits, field}
 use Rattle.sheet.specs.Writing.{Room, Written, Closed, opened}
 use Rattle.sheet.proofs.Numbers.{length-digits, rest-more, flat-more}
+use Rattle.drawing.proofs.Stores.{sets-append}
 
 -- a store before a run of stores
 pub set-before : (l : List ℕ) (j a i : ℕ) (vs : List ℕ) → j < i → set (sets l i vs) j a ≡ sets (set l j a) i vs
@@ -17,13 +18,6 @@ set-before l j a i [] h = refl
 set-before l j a i (v ∷ vs) h =
     set-before (set l i v) j a (suc i) vs (omega arith)
     ∙ ap (λ (m : List ℕ). sets m (suc i) vs) (set-comm l i j v a (λ e. omega arith))
-
--- a run of stores behind another
-pub sets-append : (l : List ℕ) (i : ℕ) (xs ys : List ℕ) → sets (sets l i xs) (i + length xs) ys ≡ sets l i (xs ++ ys)
-sets-append l i [] ys = ap (λ (j : ℕ). sets l j ys) (add-zero i)
-sets-append l i (x ∷ xs) ys =
-    ap (λ (j : ℕ). sets (sets (set l i x) (suc i) xs) j ys) (add-suc i (length xs) ∙ sym (suc-add i (length xs)))
-    ∙ sets-append (set l i x) (suc i) xs ys
 
 -- What the loop over a number's bytes keeps, which stores the low byte first: the last i of the bytes stand.
 pub record LowStored (before : List ℕ) (at number width : ℕ) (sheet : List ℕ) (rest i : ℕ) : Type 0 where

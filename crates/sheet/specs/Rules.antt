@@ -1,16 +1,15 @@
 -- Rules 25 to 30: what a sheet whose shape is sound has to keep, each at its gate or LUT, in the order in which they are tried.
-use Prim.Native.Nat.{ℕ, zero, suc, _+_, _-_}
+use Prim.Native.Nat.{ℕ, zero, suc, _-_}
 use mathlib.Core.Path.{_≡_}
 use mathlib.Core.Bool.{Bool, true, false, cond, _||_}
-use mathlib.Core.Logic.{_⊎_}
 use mathlib.Core.List.{List, [], _∷_, _++_, map, flatMap}
-use lib.ListN.{length, getD}
+use lib.ListN.{getD}
 use lib.Dec.{ltb, eqb}
 use Rattle.theory.specs.Net.{Net}
 use Rattle.theory.specs.Lists.{greatest}
 use Rattle.theory.specs.Walk.{Cut}
 use Rattle.theory.specs.Cover.{Luts, Wanted, Depths}
-use Rattle.theory.specs.Evidence.{peak, Evidence, Owes}
+use Rattle.theory.specs.Evidence.{Peaked, Evidence, Owes}
 use Rattle.theory.specs.Lookup.{ConeTable}
 use Rattle.sheet.specs.Sheet.{Line, Lut, Sheet, noLine}
 
@@ -37,13 +36,19 @@ tableListed (lut ∷ luts) v = cond (eqb (lut .root) v) (lut .table) (tableListe
 abbrev pub lutsOf : List Lut → Luts
 lutsOf luts = record { root = isListed luts; leaves = leavesListed luts }
 
--- a rule, with the gate or LUT at which it is tried
+-- a rule, with the gate or LUT at which it is tried; the paper's number of each
 pub data Rule : Type 0 where
+  -- 25
   cut : (gate : ℕ) (leaves : List ℕ) → Rule
+  -- 26
   label : (gate : ℕ) → Rule
+  -- 27
   paths : (gate : ℕ) → Rule
+  -- 29
   function : Lut → Rule
+  -- 28
   cover : (gate : ℕ) → Rule
+  -- 30
   depth : Rule
 
 -- "the paper's number" of a rule, and the place that its refusal names: "gate id for 25 to 29 (lowest for 28); 0 for 30"
@@ -66,7 +71,7 @@ rulePlace Rule.depth = 0
 -- 26, kept: the label is "1 + the greatest leaf label", and p or p + 1
 pub record LabelKept (net : Net) (lab : ℕ → ℕ) (leaves : List ℕ) (t : ℕ) : Type 0 where
   pub shown : lab t ≡ suc (greatest (map lab leaves))
-  pub near : (lab t ≡ peak net lab t) ⊎ (lab t ≡ suc (peak net lab t))
+  pub near : Peaked net lab t (lab t)
 
 -- 27, kept: evidence where it is due, and true; none where it is not
 pub record PathsKept (net : Net) (k : ℕ) (lab : ℕ → ℕ) (t : ℕ) (paths : List (List ℕ)) : Type 0 where

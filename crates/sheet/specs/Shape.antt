@@ -39,6 +39,9 @@ pub record Due : Type 0 where
   pub inputs : ℕ
   pub nodes : ℕ
 
+abbrev pub dueFrom : (form : Form) (most k inputs nodes : ℕ) → Due
+dueFrom form most k inputs nodes = record { form = form; most = most; k = k; inputs = inputs; nodes = nodes }
+
 -- "Within a sheet field: fewer than 3 bytes, tag, value past the end, length, range"
 abbrev pub fieldRules : (s : List ℕ) (at due : ℕ) (length-wrong out-of-range : Bool) → List (Rule Ruling)
 fieldRules s at due length-wrong out-of-range =

@@ -1,5 +1,6 @@
 // The bytes of a mapping sheet, written into a buffer that the caller lends.
 mod bytes;
+pub mod faults;
 
 use drawing::CutSize;
 use drawing::Label;

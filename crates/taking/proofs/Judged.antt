@@ -1,26 +1,25 @@
 -- What `take_table` answers is what the bytes say, where the arrays are long enough; and the arrays of a table taken are ready.
-use Prim.Native.Nat.{ℕ, _+_, _-_, _*_, _≤_, _<_}
+use Prim.Native.Nat.{ℕ, _≤_}
 use mathlib.Core.Path.{_≡_, refl, ap, sym, subst, _∙_}
-use mathlib.Core.Bool.{Bool, true, false, cond, true≢false, false≢true}
+use mathlib.Core.Bool.{Bool, true, false, cond, true≢false}
 use mathlib.Core.List.{List}
 use native.Mathlib.Omega.{arith}
-use lib.ListN.{length, take}
-use Rattle.theory.specs.Net.{Net, Gate}
-use Rattle.theory.specs.Walk.{Loop}
+use lib.ListN.{length}
+use borrow.Author.Tests.{le-leb}
+use Rattle.theory.specs.Net.{Net}
 use Rattle.theory.specs.Sound.{Bounded}
 use Rattle.drawing.specs.declared.Head.{Head}
+use Rattle.drawing.specs.declared.Node.{Node}
 use Rattle.drawing.specs.declared.Refusal.{Refusal}
 use Rattle.drawing.specs.declared.Verdict.{Verdict}
 use Rattle.drawing.specs.declared.Verdict.the-variants.{Sound, Refused as RefusedFor}
-use Rattle.drawing.specs.declared.Reading.{Reading}
 use Rattle.drawing.specs.declared.Reading.the-variants as read
-use Rattle.drawing.specs.Table.{netOf, netIn, tablesOf, tablesIn}
-use Rattle.drawing.specs.Fields.{headK, headI, headG}
-use Rattle.drawing.specs.Reading.{Arrays, Found, found, reading, replyOf, filled, enough, tableOf, nodesOf, headOf}
+use Rattle.drawing.specs.Table.{netOf}
+use Rattle.drawing.specs.Fields.{headK, headI}
+use Rattle.drawing.specs.Reading.{Arrays, arraysOf, found, reading, replyOf, filled, enough, tableOf, nodesOf, headOf}
 use Rattle.drawing.proofs.SoundTables.{SoundTable, table-sound}
 use Rattle.drawing.proofs.Held.{Holds, whole-holds}
-use Rattle.walking.specs.Arrays.{Drawn, Ordered}
-use Rattle.walking.specs.declared.Ordering.{Ordering}
+use Rattle.walking.specs.Arrays.{Drawn}
 use Rattle.walking.specs.declared.Ordering.the-variants as made
 use Rattle.walking.specs.Promises.{LoopRuling, OrderMade}
 use Rattle.walking.proofs.Outcomes.{order-taken}
@@ -122,3 +121,59 @@ module _ (a : Arrays) (order₀ marks₀ s : List ℕ) (long : enough a ≡ true
   taken-ready (Takes.short e p _ _ _) = absurd (true≢false (ap isTaken p))
   taken-ready (Takes.long _ is after) =
       after-ready (found s .verdict) refl is (subst (After s order₀ marks₀ (Taken h n) order marks) (reading-is a order₀ marks₀ s long) after)
+
+-- What `take_table` answers with arrays that are long enough.
+module _ {fan₀ count₀ rows₀ outputs₀ order₀ marks₀ s fan count rows outputs order marks : List ℕ} {t : Taking}
+    (takes : Takes (arraysOf fan₀ count₀ rows₀ outputs₀) order₀ marks₀ s t (arraysOf fan count rows outputs) order marks)
+    (fan-long : 1152 ≤ length fan₀) (count-long : 192 ≤ length count₀) (rows-long : 192 ≤ length rows₀) (outputs-long : 64 ≤ length outputs₀)
+    (order-long : 192 ≤ length order₀) (marks-long : 192 ≤ length marks₀) where
+  long-enough : enough (arraysOf fan₀ count₀ rows₀ outputs₀) ≡ true
+  long-enough =
+      simp (
+        le-leb 1152 (length fan₀) fan-long,
+        le-leb 192 (length count₀) count-long,
+        le-leb 192 (length rows₀) rows-long,
+        le-leb 64 (length outputs₀) outputs-long,
+      )
+
+  roomy-so : roomy order₀ marks₀ ≡ true
+  roomy-so = simp (le-leb 192 (length order₀) order-long, le-leb 192 (length marks₀) marks-long)
+
+  pub says : Says s t
+  says = takes-says (arraysOf fan₀ count₀ rows₀ outputs₀) order₀ marks₀ s long-enough roomy-so takes
+
+  pub table-taken : {h : Head} {n : ℕ} → t ≡ Taken h n → length fan ≡ length fan₀ → length count ≡ length count₀ → length rows ≡ length rows₀ →
+      length outputs ≡ length outputs₀ → length order ≡ length order₀ → TakenAs s h n (arraysOf fan count rows outputs) order
+  table-taken {h} {n} is fan-same count-same rows-same outputs-same order-same =
+      taken-ready (arraysOf fan₀ count₀ rows₀ outputs₀) order₀ marks₀ s long-enough (arraysOf fan count rows outputs) order marks h n (omega arith) (omega arith) (omega arith)
+      (omega arith) (omega arith)
+      (subst (λ (u : Taking). Takes (arraysOf fan₀ count₀ rows₀ outputs₀) order₀ marks₀ s u (arraysOf fan count rows outputs) order marks) is takes)
+
+  -- the arrays are never too short
+  pub never-lent : t ≡ Lent → ⊥
+  never-lent is = says-no-lent (subst (Says s) is says) refl
+    where
+      says-no-lent : {u : Taking} → Says s u → u ≡ Lent → ⊥
+      says-no-lent (Says.refused e) same = let z : _≡_ {A = ℕ} 0 1 = cc in omega arith
+      says-no-lent (Says.ordered {o = made.Whole} e ruling) same = let z : _≡_ {A = ℕ} 0 1 = cc in omega arith
+      says-no-lent (Says.ordered {o = made.LoopAt g} e ruling) same = let z : _≡_ {A = ℕ} 0 1 = cc in omega arith
+
+-- What is said of a table that is refused
+
+pub refused-verdict : {s : List ℕ} {x : Refusal} → Says s (Refused x) → found s .verdict ≡ RefusedFor x
+refused-verdict {s} {x} said = by said refl
+  where
+    by : {r : Taking} → Says s r → r ≡ Refused x → found s .verdict ≡ RefusedFor x
+    by (Says.refused {x = y} e) same = let z : y ≡ x = cc in e ∙ ap RefusedFor z
+    by (Says.ordered {o = made.Whole} e ruling) same = let z : _≡_ {A = ℕ} 0 1 = cc in absurd (omega arith)
+    by (Says.ordered {o = made.LoopAt g} e ruling) same = let z : _≡_ {A = ℕ} 0 1 = cc in absurd (omega arith)
+
+pub loop-said : {s : List ℕ} {g : Node} → Says s (LoopAt g) → (found s .verdict ≡ Sound) × LoopRuling (netOf (tableOf s)) (made.LoopAt g)
+loop-said {s} {g} said = by said refl
+  where
+    by : {r : Taking} → Says s r → r ≡ LoopAt g → (found s .verdict ≡ Sound) × LoopRuling (netOf (tableOf s)) (made.LoopAt g)
+    by (Says.refused e) same = let z : _≡_ {A = ℕ} 0 1 = cc in absurd (omega arith)
+    by (Says.ordered {o = made.Whole} e ruling) same = let z : _≡_ {A = ℕ} 0 1 = cc in absurd (omega arith)
+    by (Says.ordered {o = made.LoopAt h} e ruling) same =
+        let z : h ≡ g = cc in
+        (e, subst (λ (u : Node). LoopRuling (netOf (tableOf s)) (made.LoopAt u)) z ruling)

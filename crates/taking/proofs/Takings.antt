@@ -1,29 +1,26 @@
 -- A table read whole can be ordered: its arrays hold a K-bounded net. And one promise allows one reply.
-use Prim.Native.Nat.{ℕ, _+_, _*_, _≤_, _<_}
-use mathlib.Core.Path.{_≡_, refl, ap, sym, subst, _∙_}
-use mathlib.Core.Bool.{Bool, true, false, true≢false, false≢true}
+use Prim.Native.Nat.{ℕ, _+_, _≤_}
+use mathlib.Core.Path.{_≡_, ap, sym, subst, _∙_}
+use mathlib.Core.Bool.{true≢false}
 use mathlib.Core.List.{List}
 use native.Mathlib.Omega.{arith}
-use lib.ListN.{length, getD}
+use lib.ListN.{length}
 use Rattle.theory.specs.Net.{Net}
 use Rattle.theory.specs.Sound.{Bounded}
 use Rattle.drawing.specs.declared.Head.{Head}
 use Rattle.drawing.specs.declared.Reading.{Reading}
 use Rattle.drawing.specs.declared.Reading.the-variants as read
 use Rattle.drawing.specs.Table.{netOf, netIn}
-use Rattle.drawing.specs.Fields.{headK, headI, headG}
-use Rattle.drawing.specs.Reading.{Arrays, reading, filled, tableOf, nodesOf, headOf}
+use Rattle.drawing.specs.Fields.{headI, headG}
+use Rattle.drawing.specs.Reading.{Arrays, reading, filled, tableOf}
 use Rattle.drawing.proofs.SoundTables.{read-whole, table-sound}
 use Rattle.drawing.proofs.Held.{Holds, whole-holds}
-use Rattle.walking.specs.Arrays.{Drawn}
-use Rattle.walking.specs.declared.Ordering.{Ordering}
 use Rattle.walking.specs.Promises.{OrderRoom, OrderMade}
 use Rattle.walking.proofs.Unique.{ruling-one, order-one}
 use Rattle.taking.specs.declared.Taking.{Taking}
-use Rattle.taking.specs.declared.Taking.the-variants.{Taken, Refused, LoopAt, Lent}
-use Rattle.taking.specs.Taking.{roomy, afterOrder, Headed, After, Takes}
+use Rattle.taking.specs.Taking.{afterOrder, Headed, After, Takes}
 
-looser : {net : Net} {k m : ℕ} → k ≤ m → Bounded net k → Bounded net m
+pub looser : {net : Net} {k m : ℕ} → k ≤ m → Bounded net k → Bounded net m
 looser more b =
     record {
       span = b .span;

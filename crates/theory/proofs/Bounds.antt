@@ -9,7 +9,7 @@ use mathlib.Core.Bool.{Bool, true, decide}
 use mathlib.Mathlib.Data.Bool.Basic.{decide-true, of-decide-true}
 use mathlib.Core.Logic.{inr}
 use mathlib.Core.List.{List, _∷_, map, List·Memᴰ, List·Memᴰ·head}
-use Rattle.theory.specs.Net.{Net, Gate, Input}
+use Rattle.theory.specs.Net.{Net, Gate}
 use Rattle.theory.specs.Sound.{Bounded, Ranked}
 use Rattle.theory.specs.Lists.{greatest}
 use Rattle.theory.specs.Walk.{Cut}
@@ -19,11 +19,9 @@ use Rattle.theory.proofs.Members.{greatest-at-most}
 use Rattle.theory.proofs.Leads.{Leads, decide-leads}
 use Rattle.theory.proofs.Walks.{Stops, cut-stops, met-rank, decide-gate}
 use Rattle.theory.proofs.Depths.{Within, Placed, within-numbers, depth-within}
+use Rattle.theory.specs.Evidence.{ZeroAtInputs}
 
 -- Below
-
-abbrev pub ZeroAtInputs : Net → (ℕ → ℕ) → Type 0
-ZeroAtInputs net lab = (v : ℕ) → Input net v → lab v ≡ 0
 
 -- no leaves that stop a gate's walk are all more than one below its number
 abbrev pub UnbeatenAt : Net → ℕ → (ℕ → ℕ) → ℕ → Type 0

@@ -10,15 +10,11 @@ use mathlib.Core.List.{List, List·Memᴰ}
 use Rattle.theory.specs.Net.{Net, Input}
 use Rattle.theory.specs.Values.{Obeys}
 use Rattle.theory.specs.Cover.{Luts, Wanted, Cover}
-use Rattle.theory.specs.Lookup.{ConeTable, ObeysLuts}
+use Rattle.theory.specs.Lookup.{ObeysLuts, TablesFit}
 use Rattle.theory.specs.Sound.{Ranked}
 use Rattle.theory.proofs.Walks.{NodesFeed, met-rank, gate-no-input}
 use Rattle.theory.proofs.Depths.{wanted-placed, leaf-placed}
 use Rattle.theory.proofs.Valuations.{follows-agree, settle, settle-sets, settle-follows}
-
--- each LUT's table is its cone's
-abbrev pub TablesFit : Net → (tables : ℕ → ℕ) → Luts → (lut-tables : ℕ → ℕ) → Type 0
-TablesFit net tables luts lut-tables = (r : ℕ) → luts .root r ≡ true → ConeTable net tables (luts .leaves r) r (lut-tables r)
 
 pub gates-obey-luts : (net : Net) (tables : ℕ → ℕ) (luts : Luts) (lut-tables : ℕ → ℕ) → TablesFit net tables luts lut-tables →
     (x : ℕ → Bool) → Obeys net tables x → ObeysLuts luts lut-tables x

@@ -14,7 +14,8 @@ use Rattle.theory.specs.Values.{rowOf, resultAt}
 use Rattle.theory.specs.Walk.{Walked, Cut, Cone}
 use Rattle.theory.specs.Lookup.{ObeysCone, ConeTable}
 use Rattle.theory.specs.Sound.{Ranked}
-use Rattle.theory.proofs.Tests.{isMember, decides-member, decides-not}
+use Rattle.theory.specs.Lists.{isMember}
+use Rattle.theory.proofs.Tests.{decides-member, decides-not}
 use Rattle.theory.proofs.Members.{rising-no-repeats}
 use Rattle.theory.proofs.Picks.{map-agree, agree-of-map, settingOf, setting-written}
 use Rattle.theory.proofs.Walks.{NodesFeed, StopsInputs, cone-closed, walked-no-leaf}

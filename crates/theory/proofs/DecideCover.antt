@@ -7,13 +7,11 @@ use mathlib.Core.List.{List, List·Memᴰ}
 use lib.Dec.{ltb}
 use Rattle.theory.specs.Net.{Net}
 use Rattle.theory.specs.Sound.{Bounded}
-use Rattle.theory.specs.Cover.{Luts, Wanted, Cover}
-use Rattle.theory.proofs.Tests.{Decides, decides-as, decides-itself, _and-then_, decides-or, decides-if, decides-lt, decides-member, decides-every, decides-below, decides-some-below, isMember, every, everyBelow, someBelow}
+use Rattle.theory.specs.Cover.{Luts, Wanted, Cover, lutsOf}
+use Rattle.theory.specs.Lists.{isMember}
+use Rattle.theory.proofs.Tests.{Decides, decides-as, decides-itself, _and-then_, decides-or, decides-if, decides-lt, decides-member, decides-every, decides-below, decides-some-below, every, everyBelow, someBelow}
 use Rattle.theory.proofs.DecideNet.{isGate, decides-gate}
 use Rattle.theory.proofs.DecideCut.{isCut, decides-cut}
-
-abbrev pub lutsOf : List ℕ → (ℕ → List ℕ) → Luts
-lutsOf roots leaves = record { root = λ v. isMember v roots; leaves = leaves }
 
 unfoldable isWanted : Net → List ℕ → Luts → ℕ → Bool
 unfolding isMember someBelow

@@ -7,9 +7,8 @@ use lib.Dec.{leb, eqb}
 use Rattle.theory.specs.Net.{Net}
 use Rattle.theory.specs.Sound.{Bounded}
 use Rattle.theory.specs.Lists.{greatest}
-use Rattle.theory.specs.Evidence.{peak}
+use Rattle.theory.specs.Evidence.{peak, Line, Lines}
 use Rattle.theory.proofs.Tests.{Decides, decides-as, _and-then_, decides-or, decides-if, decides-le, decides-equal, decides-below, everyBelow}
-use Rattle.theory.proofs.Rules.{Line, Lines}
 use Rattle.theory.proofs.DecideNet.{isGate, decides-gate}
 use Rattle.theory.proofs.DecideCut.{isCut, decides-cut}
 use Rattle.theory.proofs.DecideEvidence.{isEvidence, decides-evidence}

@@ -140,9 +140,6 @@ module _ {net : Net} {k : ℕ} {outputs : List ℕ} {luts : Luts} (feed : NodesF
         let most = greatest-at-most after-rank (luts .leaves r) (ranked .rank r) (λ l leaf. met-rank ranked (cover .cuts r at .met l leaf)) in
         omega arith
 
-    pub depth-exists : {v : ℕ} → Placed net luts v → (d : ℕ) × Depth net luts v d
-    depth-exists placed = let (d, _, depth) = depth-within (within-numbers after-rank rank-falls placed) in (d, depth)
-
     -- so the cover has a depth
     pub cover-depth-exists : ((v : ℕ) → List·Memᴰ v outputs → v < net .nodes) → (d : ℕ) × Depths net luts outputs d
     cover-depth-exists nodes =

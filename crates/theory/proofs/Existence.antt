@@ -11,7 +11,7 @@ use Rattle.theory.specs.Net.{Net, Gate}
 use Rattle.theory.specs.Sound.{Bounded, Ranked}
 use Rattle.theory.specs.Walk.{Cut}
 use Rattle.theory.specs.Cover.{Label}
-use Rattle.theory.specs.Evidence.{peak, Outside, NeverFalls}
+use Rattle.theory.specs.Evidence.{peak, Outside, NeverFalls, ZeroAtInputs}
 use Rattle.theory.proofs.Ranks.{common-bound}
 use Rattle.theory.proofs.Tests.{decided}
 use Rattle.theory.proofs.Decisions.{decide-both}
@@ -19,7 +19,6 @@ use Rattle.theory.proofs.Walks.{Tight, met-rank, gate-no-input, decide-
 use Rattle.theory.proofs.DecideEvidence.{isOutside, decides-outside}
 use Rattle.theory.proofs.TriedCuts.{decides-some-cut}
 use Rattle.theory.proofs.Cuts.{InnerCut, cut-of-stops, distinct-fanins}
-use Rattle.theory.proofs.Bounds.{ZeroAtInputs}
 use Rattle.theory.proofs.Labels.{LocalRule, LocalRules, rules-are-labels}
 use Rattle.theory.proofs.Rules.{rule-agrees, rule-at-peak, rule-above-peak, peaked-never-fall}
 

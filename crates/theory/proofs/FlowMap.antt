@@ -4,15 +4,15 @@ use Prim.Native.Nat.{ℕ, _≤_, _<_}
 use native.Mathlib.Omega.{arith}
 use mathlib.Core.Path.{_≡_, subst}
 use mathlib.Core.Logic.{_↔_, ⊎-elim}
-use mathlib.Core.List.{List, List·Memᴰ}
+use mathlib.Core.List.{List}
 use Rattle.theory.specs.Net.{Net, Gate}
 use Rattle.theory.specs.Sound.{Bounded, Ranked}
 use Rattle.theory.specs.Walk.{Cut}
 use Rattle.theory.specs.Cover.{Label}
-use Rattle.theory.specs.Evidence.{peak, Outside, NeverFalls}
+use Rattle.theory.specs.Evidence.{peak, Outside, NeverFalls, Peaked, ZeroAtInputs}
 use Rattle.theory.proofs.Walks.{cut-stops, met-node}
-use Rattle.theory.proofs.Bounds.{Unbeaten, ZeroAtInputs}
-use Rattle.theory.proofs.Labels.{Peaked, LocalRule, LocalRules, label-is-one, rules-are-labels, rules-unbeaten, peaked-rises, low-outside}
+use Rattle.theory.proofs.Bounds.{Unbeaten}
+use Rattle.theory.proofs.Labels.{LocalRule, LocalRules, label-is-one, rules-are-labels, rules-unbeaten, low-outside}
 use Rattle.theory.proofs.Rules.{rule-agrees, peaked-never-fall}
 use Rattle.theory.proofs.Existence.{rules-exist}
 
@@ -45,9 +45,6 @@ module _ {net : Net} {k : ℕ} {outputs : List ℕ} {lab : ℕ → ℕ} (bounded
     -- "the label is p or p + 1"
     pub label-peaked : Peaked net lab t (lab t)
     label-peaked = labels-keep-rules .1 .gates t gate .peaked
-
-    pub label-rises : {u : ℕ} → List·Memᴰ u (net .fanins t) → lab u ≤ lab t
-    label-rises fanin = peaked-rises net lab t label-peaked fanin
 
     pub label-positive : 1 ≤ lab t
     label-positive = let shown = labels-keep-rules .1 .gates t gate .shown in omega arith

@@ -11,16 +11,12 @@ use Rattle.theory.specs.Sound.{Bounded, Ranked}
 use Rattle.theory.specs.Lists.{greatest}
 use Rattle.theory.specs.Walk.{Walked, Cut}
 use Rattle.theory.specs.Cover.{Reaches, Label}
-use Rattle.theory.specs.Evidence.{peak, InD, Outside}
+use Rattle.theory.specs.Evidence.{peak, InD, Outside, Peaked, ZeroAtInputs}
 use Rattle.theory.proofs.Ranks.{by-rank}
 use Rattle.theory.proofs.Members.{at-most-greatest, greatest-stands}
 use Rattle.theory.proofs.Walks.{Stops, Tight, inner-stops, leaf-or-walked, input-or-gate, gate-no-input}
 use Rattle.theory.proofs.Depths.{within-depth}
-use Rattle.theory.proofs.Bounds.{ZeroAtInputs, UnbeatenAt, Unbeaten, lower-bound, upper-bound}
-
--- "the label is p or p + 1"
-abbrev pub Peaked : Net → (ℕ → ℕ) → ℕ → ℕ → Type 0
-Peaked net lab t m = (m ≡ peak net lab t) ⊎ (m ≡ suc (peak net lab t))
+use Rattle.theory.proofs.Bounds.{UnbeatenAt, Unbeaten, lower-bound, upper-bound}
 
 -- The rule at gate t, for its number m and its leaves, where `lab` has the numbers behind t
 pub record LocalRule (net : Net) (k : ℕ) (lab : ℕ → ℕ) (t m : ℕ) (leaves : List ℕ) : Type 0 where

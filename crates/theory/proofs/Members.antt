@@ -6,7 +6,7 @@ use native.Mathlib.Decide.{decLt}
 use native.Mathlib.Omega.{arith}
 use mathlib.Core.Path.{_≡_, refl, sym, ap, subst, _∙_}
 use mathlib.Core.Logic.{_⊎_, inl, inr, ⊎-elim}
-use mathlib.Core.List.{List, [], _∷_, _++_, map, List·Memᴰ, List·Memᴰ·head, List·Memᴰ·tail, List·Memᴰ·not-nil, List·Memᴰ·cases-cons, Memᴰ·cast, Memᴰ·append-right}
+use mathlib.Core.List.{List, [], _∷_, _++_, map, List·Memᴰ, List·Memᴰ·head, List·Memᴰ·tail, List·Memᴰ·not-nil, List·Memᴰ·cases-cons, List·Memᴰ·append-cases, Memᴰ·cast, Memᴰ·append-left, Memᴰ·append-right}
 use lib.ListN.{length}
 use Rattle.theory.specs.Lists.{Rising, NoRepeats, greatest}
 
@@ -39,6 +39,17 @@ no-longer {vs} l (NoRepeats.more {v = v} {vs = rest} new apart) lies =
     omega (arith, w .count)
 
 -- two lists, one after the other without repeats
+pub no-repeats-join : {l m : List ℕ} → NoRepeats l → NoRepeats m → ((v : ℕ) → List·Memᴰ v l → List·Memᴰ v m → ⊥) → NoRepeats (l ++ m)
+no-repeats-join NoRepeats.none there apart = there
+no-repeats-join {m = m} (NoRepeats.more {v = v} {vs = vs} new rest) there apart =
+    NoRepeats.more
+    (λ both. ⊎-elim new (apart v (List·Memᴰ·head refl)) (List·Memᴰ·append-cases vs both))
+    (no-repeats-join rest there (λ w m. apart w (List·Memᴰ·tail m)))
+
+pub no-repeats-first : (l m : List ℕ) → NoRepeats (l ++ m) → NoRepeats l
+no-repeats-first [] m apart = NoRepeats.none
+no-repeats-first (v ∷ l) m (NoRepeats.more new apart) = NoRepeats.more (λ there. new (Memᴰ·append-left m there)) (no-repeats-first l m apart)
+
 pub no-repeats-after : (l : List ℕ) {m : List ℕ} → NoRepeats (l ++ m) → NoRepeats m
 no-repeats-after [] apart = apart
 no-repeats-after (v ∷ l) (NoRepeats.more new apart) = no-repeats-after l apart

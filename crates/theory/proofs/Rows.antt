@@ -1,19 +1,19 @@
 -- Rows and tables as numbers: a row is the number whose bits are the values, a table the number whose bits are the results. A number is
 -- known by its bits, and all of it goes one bit at a time: the lowest bit, then the number halved.
-use Prim.Native.Nat.{ℕ, zero, suc, _+_, _*_, _/_, _%_, _^_, _≤_, _<_}
-use native.Mathlib.Nat.{pow-suc, pow-succ', div-one, le-div-iff-mul-le, lt-of-not-le, div-eq-of-lt, zero-div, lt-of-lt-of-le, eq-or-lt-of-le, le-of-suc-le-suc, one-mul, mul-assoc, add-zero}
+use Prim.Native.Nat.{ℕ, zero, suc, _+_, _*_, _/_, _%_, _^_, _<_}
+use native.Mathlib.Nat.{pow-suc, pow-succ', div-one, eq-or-lt-of-le, le-of-suc-le-suc, add-zero}
 use native.Mathlib.Numerals.{add-one, one-add}
 use native.Mathlib.Omega.{arith}
 use mathlib.Core.Path.{_≡_, refl, sym, ap, ap₂, _∙_}
-use mathlib.Core.Logic.{_↔_, ⊎-elim}
-use mathlib.Core.Bool.{Bool, true, false, false≢true}
-use mathlib.Core.List.{List, [], _∷_, _++_, map}
+use mathlib.Core.Logic.{⊎-elim}
+use mathlib.Core.Bool.{Bool, true, false}
+use mathlib.Core.List.{List, [], _∷_, map}
 use lib.ListN.{length, getD}
 use lib.Dec.{eqb}
-use lib.Arith.{digits-lt, bin-ind}
-use lib.Pow.{pow-pos, pow-mono, high, shr-lt, shr-shr}
+use lib.Arith.{digits-lt}
+use lib.Pow.{high, shr-lt, shr-shr}
 use lib.Bits.{block-half, block-odd}
-use borrow.Author.Tests.{eqb-true, eqb-false, eq-eqb}
+use borrow.Author.Tests.{eqb-true, eqb-false}
 use Rattle.theory.specs.Values.{bit, rowOf, resultAt}
 
 -- One bit
@@ -41,16 +41,6 @@ pub bit-of-result : (table row : ℕ) → bit (resultAt table row) ≡ table / 2
 unfolding resultAt
 bit-of-result table row = bit-of-test (table / 2 ^ row % 2) (omega arith)
 
-pub result-true : (table row : ℕ) → (resultAt table row ≡ true) ↔ (table / 2 ^ row % 2 ≡ 1)
-unfolding resultAt
-result-true table row = (eqb-true _ _, eq-eqb _ _)
-
-pub result-false : (table row : ℕ) → (resultAt table row ≡ false) ↔ (table / 2 ^ row % 2 ≡ 0)
-result-false table row = (
-  λ (e : resultAt table row ≡ false). sym (bit-of-result table row) ∙ ap bit e,
-  λ (e : table / 2 ^ row % 2 ≡ 0). bit-injective _ false (bit-of-result table row ∙ e),
-)
-
 -- A table shifted
 
 pub result-lowest : (table : ℕ) → bit (resultAt table 0) ≡ table % 2
@@ -62,9 +52,6 @@ result-shifted table by row = ap (λ (n : ℕ). eqb (n % 2) 1) (shr-shr table by
 
 pub result-halved : (table row : ℕ) → resultAt (table / 2) row ≡ resultAt table (suc row)
 result-halved table row = result-shifted table 1 row ∙ ap (resultAt table) (one-add row)
-
-pub result-of-zero : (row : ℕ) → resultAt 0 row ≡ false
-result-of-zero row = result-false 0 row .1 (ap (λ (n : ℕ). n % 2) (zero-div (2 ^ row)))
 
 -- of two tables side by side: the rows of the low one, then those of the high one
 pub result-of-low : (above rows below row : ℕ) → row < rows → resultAt (above * 2 ^ rows + below) row ≡ resultAt below row
@@ -93,46 +80,12 @@ tables-agree (suc rows) a b ha hb same =
     later : (row : ℕ) → row < rows → resultAt (a / 2) row ≡ resultAt (b / 2) row
     later row h = result-halved a row ∙ same (suc row) (omega arith) ∙ sym (result-halved b row)
 
-abbrev SetSomewhere : ℕ → Type 0
-SetSomewhere table = (row : ℕ) × (resultAt table row ≡ true)
-
-set-somewhere : (table : ℕ) → 0 < table → SetSomewhere table
-set-somewhere = bin-ind (λ (n : ℕ). 0 < n → SetSomewhere n) (λ h. absurd (omega arith)) (λ n deeper h. go n deeper h (resultAt n 0) refl)
-  where
-    go : (n : ℕ) → (0 < n / 2 → SetSomewhere (n / 2)) → 0 < n → (b : Bool) → resultAt n 0 ≡ b → SetSomewhere n
-    go n deeper h true e = (0, e)
-    go n deeper h false e =
-        let found = deeper (omega (arith, result-lowest n, ap bit e)) in
-        (suc (found .0), sym (result-halved n (found .0)) ∙ found .1)
-
--- a table too large for its rows is set somewhere above them
-pub set-above : (table rows : ℕ) → 2 ^ rows ≤ table → (row : ℕ) × (rows ≤ row) × (resultAt table row ≡ true)
-set-above table rows large =
-    let found = set-somewhere (table / 2 ^ rows) (le-div-iff-mul-le {x = 1} (pow-pos rows) .1 (rw one-mul large)) in
-    (rows + found .0, omega arith, sym (result-shifted table rows (found .0)) ∙ found .1)
-
--- so a table fits its rows exactly if nothing is set above them
-pub table-fits : (table rows : ℕ) → (table < 2 ^ rows) ↔ ((row : ℕ) → rows ≤ row → resultAt table row ≡ false)
-table-fits table rows = (clear, small)
-  where
-    clear : table < 2 ^ rows → (row : ℕ) → rows ≤ row → resultAt table row ≡ false
-    clear h row l = result-false table row .1 (ap (λ (n : ℕ). n % 2) (div-eq-of-lt (lt-of-lt-of-le h (pow-mono l))))
-
-    small : ((row : ℕ) → rows ≤ row → resultAt table row ≡ false) → table < 2 ^ rows
-    small none = lt-of-not-le (λ large. let found = set-above table rows large in false≢true (sym (none (found .0) (found .1)) ∙ found .2))
-
 -- Rows
 
 pub row-below : (bs : List Bool) → rowOf bs < 2 ^ length bs
 unfolding rowOf
 row-below [] = omega arith
 row-below (b ∷ bs) = rw pow-suc (omega (arith, row-below bs, bit-below b))
-
--- one more value, at the far end
-pub row-of-last : (bs : List Bool) (b : Bool) → rowOf (bs ++ b ∷ []) ≡ bit b * 2 ^ length bs + rowOf bs
-unfolding rowOf
-row-of-last [] b = omega arith
-row-of-last (c ∷ bs) b = rw (row-of-last bs b, pow-suc 2 (length bs), ← mul-assoc) (omega arith)
 
 pub rows-agree : (bs cs : List Bool) → length bs ≡ length cs → rowOf bs ≡ rowOf cs → bs ≡ cs
 unfolding rowOf
@@ -143,16 +96,6 @@ rows-agree (b ∷ bs) (c ∷ cs) long same =
     let small = bit-below b in
     let small′ = bit-below c in
     ap₂ {C = List Bool} _∷_ (bit-injective b c (omega arith)) (rows-agree bs cs (omega arith) (omega arith))
-
--- bit i of a row is value i
-pub value-in-row : (bs : List Bool) (i : ℕ) → resultAt (rowOf bs) i ≡ getD bs i false
-unfolding rowOf
-value-in-row [] i = result-of-zero i
-value-in-row (b ∷ bs) zero = bit-injective _ b (result-lowest (bit b + 2 * rowOf bs) ∙ omega (arith, bit-below b))
-value-in-row (b ∷ bs) (suc i) =
-    sym (result-halved (bit b + 2 * rowOf bs) i)
-    ∙ ap (λ (n : ℕ). resultAt n i) (let h : (bit b + 2 * rowOf bs) / 2 ≡ rowOf bs = omega (arith, bit-below b) in h)
-    ∙ value-in-row bs i
 
 -- the values of row r, for m of them
 unfoldable pub bitsOf : ℕ → ℕ → List Bool

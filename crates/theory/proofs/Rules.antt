@@ -11,13 +11,12 @@ use Rattle.theory.specs.Sound.{Bounded, Ranked}
 use Rattle.theory.specs.Lists.{greatest}
 use Rattle.theory.specs.Walk.{Walked, Behind, Cut}
 use Rattle.theory.specs.Cover.{Label}
-use Rattle.theory.specs.Evidence.{peak, InD, Outside, Evidence, DistinctFanins, NeverFalls}
+use Rattle.theory.specs.Evidence.{peak, InD, Outside, DistinctFanins, NeverFalls, Peaked, ZeroAtInputs, Lines, Run, TruePath, Evidence, Owes}
 use Rattle.theory.proofs.Members.{at-most-greatest, greatest-at-most}
 use Rattle.theory.proofs.Picks.{map-agree}
 use Rattle.theory.proofs.Walks.{Tight, met-behind, met-node, reader-is-gate, input-or-gate}
 use Rattle.theory.proofs.Cuts.{cut-of-fanins}
-use Rattle.theory.proofs.Bounds.{ZeroAtInputs}
-use Rattle.theory.proofs.Labels.{Peaked, LocalRule, LocalRules, peaked-rises, rules-are-labels}
+use Rattle.theory.proofs.Labels.{LocalRule, LocalRules, peaked-rises, rules-are-labels}
 use Rattle.theory.proofs.Duality.{behind-low, evidence-is-tight}
 
 -- The rule rests on the numbers behind
@@ -31,6 +30,10 @@ module _ {net : Net} {lab mab : ℕ → ℕ} {t : ℕ} (agree : (v : ℕ) → Be
   d-agrees InD.self = InD.self
   d-agrees {v} (InD.behind gate b e) = InD.behind gate b (sym (agree v b) ∙ e ∙ peak-agrees)
 
+  run-agrees : {path : List ℕ} → Run net lab t path → Run net mab t path
+  run-agrees (Run.last deep feeds) = Run.last (d-agrees deep) feeds
+  run-agrees (Run.more feeds run) = Run.more feeds (run-agrees run)
+
   pub rule-agrees : {k m : ℕ} {leaves : List ℕ} → LocalRule net k lab t m leaves → LocalRule net k mab t m leaves
   rule-agrees {m = m} {leaves = leaves} rule =
       let e : peak net lab t ≡ peak net mab t = peak-agrees in
@@ -42,6 +45,29 @@ module _ {net : Net} {lab mab : ℕ → ℕ} {t : ℕ} (agree : (v : ℕ) → Be
         tight = λ top some other s outside.
             rule .tight (top ∙ ap suc (sym e)) (omega arith) other s (λ v leaf member. outside v leaf (d-agrees member));
       }
+
+-- So does evidence, and whether it is due
+
+module _ {net : Net} {lab mab : ℕ → ℕ} {t : ℕ} (agree : (v : ℕ) → Behind net t v → lab v ≡ mab v) where
+  pub path-agrees : {path : List ℕ} → TruePath net lab t path → TruePath net mab t path
+  path-agrees p =
+      record {
+        first = p .first;
+        rest = p .rest;
+        whole = p .whole;
+        starts = p .starts;
+        runs = run-agrees agree (p .runs);
+        behind = p .behind;
+        outside = λ v m deep. p .outside v m (d-agrees (λ w b. sym (agree w b)) deep);
+      }
+
+  pub evidence-agrees : {k : ℕ} {paths : List (List ℕ)} → Evidence net k lab t paths → Evidence net k mab t paths
+  evidence-agrees e = record { count = e .count; each = λ path m. path-agrees (e .each path m); apart = e .apart }
+
+  pub owes-agrees : lab t ≡ mab t → Owes net lab t → Owes net mab t
+  owes-agrees own owes =
+      let e : peak net lab t ≡ peak net mab t = peak-agrees agree in
+      record { above = sym own ∙ owes .above ∙ ap suc e; some = omega (arith, owes .some) }
 
 -- The two ways to keep it
 
@@ -93,18 +119,6 @@ pub peaked-never-fall : {net : Net} {k : ℕ} {lab : ℕ → ℕ} {t : ℕ} → 
     ((g : ℕ) → Gate net g → Behind net t g → Peaked net lab g (lab g)) → NeverFalls net lab t
 peaked-never-fall {net} {lab = lab} bounded node peaked g u b fanin =
     peaked-rises net lab g (peaked g (reader-is-gate bounded (met-node bounded node b) fanin) b) fanin
-
--- The line of gate t in a sheet, its label, leaves and paths, passes rules 25, 26 and 27; but that paths are not "given when not due" is no
--- part of it, since no label rests on that.
-pub record Line (net : Net) (k : ℕ) (lab : ℕ → ℕ) (t : ℕ) (leaves : List ℕ) (paths : List (List ℕ)) : Type 0 where
-  pub cut : Cut net k t leaves
-  pub depth : lab t ≡ suc (greatest (map lab leaves))
-  pub near : Peaked net lab t (lab t)
-  pub shown : lab t ≡ suc (peak net lab t) → 1 ≤ peak net lab t → Evidence net k lab t paths
-
-pub record Lines (net : Net) (k : ℕ) (lab : ℕ → ℕ) (leaves : ℕ → List ℕ) (paths : ℕ → List (List ℕ)) : Type 0 where
-  pub inputs : ZeroAtInputs net lab
-  pub gates : (t : ℕ) → Gate net t → Line net k lab t (leaves t) (paths t)
 
 module _ {net : Net} {k : ℕ} {lab : ℕ → ℕ} {leaves : ℕ → List ℕ} {paths : ℕ → List (List ℕ)} (bounded : Bounded net k) (lines : Lines net k lab leaves paths) where
   pub rules-of-evidence : LocalRules net k lab leaves

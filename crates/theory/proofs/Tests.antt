@@ -10,7 +10,7 @@ use mathlib.Core.List.{List, [], _∷_, List·Memᴰ, List·Memᴰ·head, List·
 use native.Mathlib.Nat.{not-suc-le-zero, le-of-suc-le-suc, eq-or-lt-of-le, le-step, le-refl}
 use lib.Dec.{leb, ltb, eqb}
 use borrow.Author.Tests.{leb-true, ltb-true, eqb-true, le-leb, lt-ltb, eq-eqb}
-use Rattle.theory.specs.Lists.{Rising, NoRepeats}
+use Rattle.theory.specs.Lists.{Rising, NoRepeats, isMember}
 
 infixl 35 _and-then_
 pub record Decides (test : Bool) (P : Type 0) : Type 0 where
@@ -61,11 +61,6 @@ decides-lt a b = record { holds = ltb-true a b; passes = lt-ltb a b }
 
 pub decides-equal : (a b : ℕ) → Decides (eqb a b) (a ≡ b)
 decides-equal a b = record { holds = eqb-true a b; passes = eq-eqb a b }
-
--- is v in the list?
-unfoldable pub isMember : ℕ → List ℕ → Bool
-isMember v [] = false
-isMember v (u ∷ us) = eqb v u || isMember v us
 
 pub decides-member : (v : ℕ) (us : List ℕ) → Decides (isMember v us) (List·Memᴰ v us)
 unfolding isMember

@@ -7,18 +7,17 @@ use mathlib.Core.List.{List, [], _∷_, List·Memᴰ}
 use Rattle.theory.specs.Net.{Net}
 use Rattle.theory.specs.Sound.{Bounded}
 use Rattle.theory.specs.Walk.{Cut, Loop}
-use Rattle.theory.specs.Cover.{Cover}
-use Rattle.theory.specs.Evidence.{InD, Evidence, MappersCut}
+use Rattle.theory.specs.Cover.{Cover, lutsOf}
+use Rattle.theory.specs.Evidence.{InD, Evidence, MappersCut, Line}
 use Rattle.theory.proofs.Tests.{Decides, passed, decides-itself, _and-then_, decides-not, decides-every, every}
 use Rattle.theory.proofs.DecideNet.{isBounded, decides-bounded, isGate, decides-gate}
 use Rattle.theory.proofs.DecideCut.{isCut, decides-cut, isLoop, decides-loop}
 use Rattle.theory.proofs.DecideEvidence.{isInD, decides-in-d, isEvidence, decides-evidence}
-use Rattle.theory.proofs.Rules.{Line}
 use Rattle.theory.proofs.DecideLabels.{isLine, decides-line}
 use Rattle.theory.proofs.DecideMapper.{isMappersCut, decides-mappers-cut}
-use Rattle.theory.proofs.DecideCover.{lutsOf, isCover, decides-cover}
-use Rattle.theory.proofs.DecideDrawing.{Drawing, and, or, inverse, netOf, ofGate}
-use Rattle.theory.proofs.Drawings.{p1, p3, p4, p5, p6, p8, p9}
+use Rattle.theory.proofs.DecideCover.{isCover, decides-cover}
+use Rattle.theory.specs.Cases.{Drawing, and, or, inverse, netOf, ofGate}
+use Rattle.theory.specs.Drawings.{p1, p3, p4, p5, p6, p8, p9}
 
 -- `labels` and `leaves` are those of the gates, in id order.
 pub data Statement : Type 0 where

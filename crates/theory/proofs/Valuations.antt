@@ -1,8 +1,8 @@
 -- Each setting of the inputs has exactly one valuation that obeys the gates, if the net has a rank. Shown once for any nodes that read
 -- others of lower rank through tables, since gates, the gates of a cone and LUTs are all such nodes: uniqueness by induction on the rank,
 -- existence by a recursion that the rank bounds.
-use Prim.Native.Nat.{ℕ, zero, suc, _≤_, _<_}
-use native.Mathlib.Nat.{le-refl, eq-or-lt-of-le}
+use Prim.Native.Nat.{ℕ, zero, suc, _<_}
+use native.Mathlib.Nat.{le-refl}
 use native.Mathlib.Omega.{arith}
 use mathlib.Core.Path.{_≡_, refl, sym, ap, _∙_}
 use mathlib.Core.Logic.{_⊎_, inl, inr, ⊎-elim}
@@ -35,25 +35,6 @@ module _ (reads : ℕ → List ℕ) (tables rank : ℕ → ℕ) (Driven : ℕ �
         by-rank (λ v. Driven v → x v ≡ y v) rank (λ v below d.
         x-follows v d ∙ result-agrees (tables v) (reads v) x y (λ u m. ⊎-elim (below u (rises v d u m)) (λ e. e) (closed v d u m))
         ∙ sym (y-follows v d))
-
-  -- Values computed along the rank into a memory: where y is x with g's value stored, made of values of lower rank, it follows at g and
-  -- wherever x did before.
-  pub follows-stored : (x y : ℕ → Bool) (g : ℕ)
-      → ((v : ℕ) → Driven v → rank v ≡ rank g → v ≡ g)
-      → ((v : ℕ) → (v ≡ g → ⊥) → y v ≡ x v)
-      → y g ≡ resultAt (tables g) (rowOf (map x (reads g)))
-      → ((v : ℕ) → Driven v → rank v < rank g → Follows reads tables x v)
-      → (v : ℕ) → Driven v → rank v ≤ rank g → Follows reads tables y v
-  follows-stored x y g alone same stored before v d h = value ∙ sym (result-agrees (tables v) (reads v) y x (λ u m. other u (omega (arith, rises v d u m))))
-    where
-      other : (u : ℕ) → rank u < rank g → y u ≡ x u
-      other u l = same u (λ (e : u ≡ g). omega (arith, ap rank e))
-
-      at-g : v ≡ g → y v ≡ resultAt (tables v) (rowOf (map x (reads v)))
-      at-g e = ap y e ∙ stored ∙ ap (λ (w : ℕ). resultAt (tables w) (rowOf (map x (reads w)))) (sym e)
-
-      value : y v ≡ resultAt (tables v) (rowOf (map x (reads v)))
-      value = ⊎-elim (λ e. at-g (alone v d e)) (λ l. other v l ∙ before v d l) (eq-or-lt-of-le h)
 
 -- The value at v of the valuation that follows at the nodes that are driven and has the setting at the others; the first number bounds how
 -- far back it reads.

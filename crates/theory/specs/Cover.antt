@@ -4,12 +4,17 @@ use mathlib.Core.Path.{_≡_}
 use mathlib.Core.Bool.{Bool, true}
 use mathlib.Core.List.{List, [], _∷_, List·Memᴰ}
 use Rattle.theory.specs.Net.{Net, Gate, Input}
+use Rattle.theory.specs.Lists.{isMember}
 use Rattle.theory.specs.Walk.{Cut}
 
 -- A set of LUTs, no two of one root: which nodes are roots, and the leaves of each.
 pub record Luts : Type 0 where
   pub root : ℕ → Bool
   pub leaves : ℕ → List ℕ
+
+-- LUTs as the list of their roots, and the leaves of each
+abbrev pub lutsOf : List ℕ → (ℕ → List ℕ) → Luts
+lutsOf roots leaves = record { root = λ v. isMember v roots; leaves = leaves }
 
 -- "an output or a leaf of one of them"
 pub data Wanted (outputs : List ℕ) (luts : Luts) (v : ℕ) : Type 0 where

@@ -2,6 +2,7 @@
 -- that a sheet claims.
 use Prim.Native.Nat.{ℕ, suc, _≤_}
 use mathlib.Core.Path.{_≡_}
+use mathlib.Core.Logic.{_⊎_}
 use mathlib.Core.List.{List, [], _∷_, _++_, map, List·Memᴰ}
 use lib.ListN.{length}
 use Rattle.theory.specs.Net.{Net, Gate, Input}
@@ -75,3 +76,23 @@ pub record DistinctFanins (net : Net) (t : ℕ) (leaves : List ℕ) : Type 0 whe
 pub data MappersCut (net : Net) (k : ℕ) (lab : ℕ → ℕ) (t : ℕ) (leaves : List ℕ) : Type 0 where
   at-peak : lab t ≡ peak net lab t → LeastCut net k lab t leaves → MappersCut net k lab t leaves
   above-peak : lab t ≡ suc (peak net lab t) → DistinctFanins net t leaves → MappersCut net k lab t leaves
+
+-- "the label is p or p + 1"
+abbrev pub Peaked : Net → (ℕ → ℕ) → ℕ → ℕ → Type 0
+Peaked net lab t m = (m ≡ peak net lab t) ⊎ (m ≡ suc (peak net lab t))
+
+-- The line of gate t in a sheet, its label, leaves and paths, passes rules 25, 26 and 27; but that paths are not "given when not due" is no
+-- part of it, since no label rests on that.
+pub record Line (net : Net) (k : ℕ) (lab : ℕ → ℕ) (t : ℕ) (leaves : List ℕ) (paths : List (List ℕ)) : Type 0 where
+  pub cut : Cut net k t leaves
+  pub depth : lab t ≡ suc (greatest (map lab leaves))
+  pub near : Peaked net lab t (lab t)
+  pub shown : lab t ≡ suc (peak net lab t) → 1 ≤ peak net lab t → Evidence net k lab t paths
+
+-- "Inputs have label 0."
+abbrev pub ZeroAtInputs : Net → (ℕ → ℕ) → Type 0
+ZeroAtInputs net lab = (v : ℕ) → Input net v → lab v ≡ 0
+
+pub record Lines (net : Net) (k : ℕ) (lab : ℕ → ℕ) (leaves : ℕ → List ℕ) (paths : ℕ → List (List ℕ)) : Type 0 where
+  pub inputs : ZeroAtInputs net lab
+  pub gates : (t : ℕ) → Gate net t → Line net k lab t (leaves t) (paths t)

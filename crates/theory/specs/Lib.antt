@@ -6,3 +6,5 @@ pub mod Cover
 pub mod Evidence
 pub mod Lookup
 pub mod Sound
+pub mod Cases
+pub mod Drawings

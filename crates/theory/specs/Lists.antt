@@ -1,6 +1,8 @@
 -- Words on lists of node ids.
 use Prim.Native.Nat.{ℕ, max, _<_}
+use mathlib.Core.Bool.{Bool, false, _||_}
 use mathlib.Core.List.{List, [], _∷_, List·Memᴰ}
+use lib.Dec.{eqb}
 
 -- the list rises strictly: how a set of leaves is written ("Leaves rise strictly.")
 pub data Rising : List ℕ → Type 0 where
@@ -17,3 +19,8 @@ pub data NoRepeats : List ℕ → Type 0 where
 unfoldable pub greatest : List ℕ → ℕ
 greatest [] = 0
 greatest (d ∷ ds) = max d (greatest ds)
+
+-- is v in the list?
+unfoldable pub isMember : ℕ → List ℕ → Bool
+isMember v [] = false
+isMember v (u ∷ us) = eqb v u || isMember v us

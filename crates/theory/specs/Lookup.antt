@@ -22,3 +22,7 @@ pub record ConeTable (net : Net) (tables : ℕ → ℕ) (leaves : List ℕ) (t t
 -- a valuation obeys the LUTs if each root's value is its table's bit at the row that its leaves' values make
 abbrev pub ObeysLuts : Luts → (ℕ → ℕ) → (ℕ → Bool) → Type 0
 ObeysLuts luts tables x = (r : ℕ) → luts .root r ≡ true → x r ≡ resultAt (tables r) (rowOf (map x (luts .leaves r)))
+
+-- each root's table is its cone's function
+abbrev pub TablesFit : Net → (tables : ℕ → ℕ) → Luts → (lut-tables : ℕ → ℕ) → Type 0
+TablesFit net tables luts lut-tables = (r : ℕ) → luts .root r ≡ true → ConeTable net tables (luts .leaves r) r (lut-tables r)

@@ -1,18 +1,18 @@
 -- Members of lists and of their first entries by their places; lists without repeats; the test of a member; and the fanins that arrays hold.
-use Prim.Native.Nat.{ℕ, zero, suc, min, _+_, _*_, _≤_, _<_, zero-le, suc-le-suc}
+use Prim.Native.Nat.{ℕ, zero, suc, min, _+_, _*_, _-_, _≤_, _<_, zero-le, suc-le-suc}
 use native.Mathlib.Nat.{le-of-suc-le-suc, not-suc-le-zero}
 use native.Mathlib.Omega.{arith}
 use mathlib.Core.Path.{_≡_, refl, ap, sym, subst, _∙_}
-use mathlib.Core.Bool.{Bool, true, false, false≢true, _||_, or-true}
+use mathlib.Core.Bool.{Bool, true, false, false≢true}
+use mathlib.Mathlib.Data.Bool.Basic.{eq-false-of-not-eq-true}
 use mathlib.Core.Logic.{_⊎_, inl, inr, ⊎-elim}
 use mathlib.Core.List.{List, [], _∷_, _++_, List·Memᴰ, List·Memᴰ·head, List·Memᴰ·tail, List·Memᴰ·not-nil, List·Memᴰ·append-cases, List·Memᴰ·eq-of-singleton, Memᴰ·cast, Memᴰ·append-right}
 use lib.ListN.{length, getD, take, drop, length-take, length-drop}
 use lib.Seq.{getD-take, getD-drop}
-use lib.Dec.{eqb}
-use borrow.Author.Tests.{eq-eqb, eqb-true, lt-ltb, le-ltb}
-use Rattle.theory.specs.Lists.{NoRepeats}
+use borrow.Author.Tests.{lt-ltb, le-ltb}
+use Rattle.theory.specs.Lists.{NoRepeats, isMember}
+use Rattle.theory.proofs.Tests.{decides-member}
 use Rattle.drawing.specs.Table.{netIn}
-use Rattle.walking.specs.Sweeps.{among}
 use Rattle.walking.specs.Listing.{faninsAt}
 
 -- Members by their places
@@ -53,6 +53,13 @@ part-place {v} n l m =
     let low : p .at < n = omega (arith, p .inside) in
     record { at = p .at; low = low; inside = omega (arith, p .inside); entry = sym (getD-take n l (p .at) 0 low) ∙ p .entry }
 
+-- what is left of two lists agrees, so their entries do
+pub drop-agrees : (n : ℕ) (l m : List ℕ) → drop n l ≡ drop n m → (v : ℕ) → n ≤ v → getD l v 0 ≡ getD m v 0
+drop-agrees n l m same v far =
+    let e : n + (v - n) ≡ v = omega arith in
+    ap (λ (w : ℕ). getD l w 0) (sym e) ∙ sym (getD-drop n l (v - n) 0) ∙ ap (λ (x : List ℕ). getD x (v - n) 0) same ∙ getD-drop n m (v - n) 0
+    ∙ ap (λ (w : ℕ). getD m w 0) e
+
 -- One more entry
 
 pub member-more : {u v : ℕ} {l : List ℕ} → List·Memᴰ u (l ++ (v ∷ [])) → List·Memᴰ u l ⊎ (u ≡ v)
@@ -81,26 +88,11 @@ one-place (NoRepeats.more apart rest) (suc i) (suc j) p q e = ap suc (one-place 
 pub false-not-true : {b : Bool} → b ≡ false → b ≡ true → ⊥
 false-not-true {b} p q = let e : false ≡ true = sym p ∙ q in false≢true e
 
-pub among-member : {v : ℕ} {l : List ℕ} → List·Memᴰ v l → among v l ≡ true
-unfolding among
-among-member {v} (List·Memᴰ·head {x = x} e) = rw (eq-eqb v x e)
-among-member {v} (List·Memᴰ·tail {x = x} m) = rw (among-member m) (or-true (eqb v x))
+pub is-member : {v : ℕ} {l : List ℕ} → List·Memᴰ v l → isMember v l ≡ true
+is-member {v} {l} = decides-member v l .passes
 
-pub member-among : (v : ℕ) (l : List ℕ) → among v l ≡ true → List·Memᴰ v l
-unfolding among
-member-among v [] e = absurd (false-not-true refl e)
-member-among v (u ∷ l) e = either (eqb v u) refl e (member-among v l)
-  where
-    either : (b : Bool) → eqb v u ≡ b → (b || among v l) ≡ true → (among v l ≡ true → List·Memᴰ v l) → List·Memᴰ v (u ∷ l)
-    either true same e later = List·Memᴰ·head (eqb-true v u same)
-    either false other e later = List·Memᴰ·tail (later e)
-
-pub not-among : {v : ℕ} {l : List ℕ} → (List·Memᴰ v l → ⊥) → among v l ≡ false
-not-among {v} {l} none = either (among v l) refl
-  where
-    either : (b : Bool) → among v l ≡ b → among v l ≡ false
-    either true e = absurd (none (member-among v l e))
-    either false e = e
+pub no-member : {v : ℕ} {l : List ℕ} → (List·Memᴰ v l → ⊥) → isMember v l ≡ false
+no-member {v} {l} none = eq-false-of-not-eq-true (λ e. none (decides-member v l .holds e))
 
 -- The fanins that arrays hold
 

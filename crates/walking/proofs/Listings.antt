@@ -18,7 +18,7 @@ use Rattle.drawing.specs.Table.{netIn}
 use Rattle.walking.specs.Arrays.{Drawn, Marks}
 use Rattle.walking.specs.Sweeps.{turn}
 use Rattle.walking.specs.Listing.{faninsAt, FaninsBelow, AllMarked, AddRoom, Added, Settled, Listing, Listed, noted}
-use Rattle.walking.proofs.Entries.{member-more, member-last, no-repeats-more, among-member, not-among, fanins-in}
+use Rattle.walking.proofs.Entries.{member-more, member-last, no-repeats-more, is-member, no-member, fanins-in}
 use Rattle.walking.proofs.Counting.{room-for-missing}
 use Rattle.walking.proofs.Placing.{Turns, turn-is, Waiting, decide-ready}
 
@@ -217,9 +217,9 @@ module _ {inputs nodes : ℕ} {fan count list marks : List ℕ} {size : ℕ} (l 
     where
       settled : Settled inputs (take size list) v → noted inputs (take size list) v ≡ take size list
       settled (inl low) = rw (lt-ltb v inputs low)
-      settled (inr m) = rw (among-member m, or-true (ltb v inputs))
+      settled (inr m) = rw (is-member m, or-true (ltb v inputs))
   note-listed (Added.waits some _ _ _) = absurd (some (λ u m. absurd (List·Memᴰ·not-nil m)))
-  note-listed (Added.added unmarked _ p q r) = more unmarked p q r (sym (rw (le-ltb v inputs (high (decLt v inputs)), not-among (λ (m : List·Memᴰ v (take size list)). unmarked (l .settled .marked v node (inr m))))))
+  note-listed (Added.added unmarked _ p q r) = more unmarked p q r (sym (rw (le-ltb v inputs (high (decLt v inputs)), no-member (λ (m : List·Memᴰ v (take size list)). unmarked (l .settled .marked v node (inr m))))))
     where
       high : Dec (v < inputs) → inputs ≤ v
       high (yes low) = absurd (unmarked (l .settled .marked v node (inl low)))

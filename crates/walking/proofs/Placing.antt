@@ -14,9 +14,10 @@ use borrow.Author.Tests.{lt-ltb, le-ltb}
 use Rattle.theory.specs.Net.{Net, Gate}
 use Rattle.theory.specs.Lists.{NoRepeats}
 use Rattle.theory.proofs.Decisions.{decide-member}
-use Rattle.walking.specs.Sweeps.{among, ready, turn, turnsFrom, swept, sweptTimes, orderOf}
+use Rattle.theory.specs.Lists.{isMember}
+use Rattle.walking.specs.Sweeps.{ready, turn, turnsFrom, swept, sweptTimes, orderOf}
 use Rattle.walking.specs.Listing.{Settled}
-use Rattle.walking.proofs.Entries.{place-of, member-more, no-repeats-more, among-member, not-among}
+use Rattle.walking.proofs.Entries.{place-of, member-more, no-repeats-more, is-member, no-member}
 
 module _ (net : Net) where
   -- Readiness
@@ -31,9 +32,9 @@ module _ (net : Net) where
     pub above : net .inputs ≤ fanin
     pub unplaced : List·Memᴰ fanin l → ⊥
 
-  settled-test : (l : List ℕ) (u : ℕ) → Settled (net .inputs) l u → (ltb u (net .inputs) || among u l) ≡ true
+  settled-test : (l : List ℕ) (u : ℕ) → Settled (net .inputs) l u → (ltb u (net .inputs) || isMember u l) ≡ true
   settled-test l u (inl low) = rw (lt-ltb u (net .inputs) low)
-  settled-test l u (inr m) = rw (among-member m) (or-true (ltb u (net .inputs)))
+  settled-test l u (inr m) = rw (is-member m) (or-true (ltb u (net .inputs)))
 
   pub all-ready : (l us : List ℕ) → AllSettled l us → ready net l us ≡ true
   unfolding ready
@@ -57,9 +58,9 @@ module _ (net : Net) where
   waits-for : (l : List ℕ) (x : ℕ) → net .inputs ≤ x → (List·Memᴰ x l → ⊥) → {us : List ℕ} → List·Memᴰ x us → ready net l us ≡ false
   unfolding ready
   waits-for l x above new (List·Memᴰ·head {x = u} e) =
-      rw (le-ltb u (net .inputs) (omega arith), not-among (λ (m : List·Memᴰ u l). new (Memᴰ·cast e m)))
+      rw (le-ltb u (net .inputs) (omega arith), no-member (λ (m : List·Memᴰ u l). new (Memᴰ·cast e m)))
   waits-for l x above new (List·Memᴰ·tail {x = u} m) =
-      rw (waits-for l x above new m) (and-false (ltb u (net .inputs) || among u l))
+      rw (waits-for l x above new m) (and-false (ltb u (net .inputs) || isMember u l))
 
   pub not-ready : {l us : List ℕ} → Waiting l us → ready net l us ≡ false
   not-ready {l} w = waits-for l (w .fanin) (w .above) (w .unplaced) (w .feeds)
@@ -73,9 +74,9 @@ module _ (net : Net) where
 
   pub turn-is : {l m : List ℕ} {v : ℕ} → Turns l v m → turn net l v ≡ m
   unfolding turn
-  turn-is (Turns.placed here) = rw (among-member here)
-  turn-is (Turns.waits new w) = rw (not-among new, not-ready w)
-  turn-is {l} {v = v} (Turns.goes new all) = rw (not-among new, all-ready l (net .fanins v) all)
+  turn-is (Turns.placed here) = rw (is-member here)
+  turn-is (Turns.waits new w) = rw (no-member new, not-ready w)
+  turn-is {l} {v = v} (Turns.goes new all) = rw (no-member new, all-ready l (net .fanins v) all)
 
   pub turns : (l : List ℕ) (v : ℕ) → Turns l v (turn net l v)
   turns l v = either (decide-member v l) (decide-ready l (net .fanins v))

@@ -21,7 +21,7 @@ use Rattle.walking.specs.Searching.{Kept, Searched, LowestFound}
 use Rattle.walking.specs.Promises.{LoopRuling}
 use Rattle.walking.specs.declared.Ordering.the-variants.{Whole, LoopAt}
 use Rattle.walking.proofs.Fills.{started, started-size, started-beyond}
-use Rattle.walking.proofs.Entries.{member-more, member-last, among-member, not-among, fanins-in, member-of-part, part-place}
+use Rattle.walking.proofs.Entries.{member-more, member-last, is-member, no-member, fanins-in, member-of-part, part-place}
 use Rattle.walking.proofs.Listings.{listing-size, listed-same, listed-on, listed-as, note-listed}
 
 -- The list of nodes noted
@@ -37,8 +37,8 @@ module _ (inputs : ℕ) where
     where
       either : Dec (v < inputs) → Dec (List·Memᴰ v l) → Notes l v (noted inputs l v)
       either (yes low) m = rw (lt-ltb v inputs low) (Notes.settled (inl low))
-      either (no high) (yes m) = rw (among-member m, or-true (ltb v inputs)) (Notes.settled (inr m))
-      either (no high) (no new) = rw (le-ltb v inputs (omega arith), not-among new) Notes.goes
+      either (no high) (yes m) = rw (is-member m, or-true (ltb v inputs)) (Notes.settled (inr m))
+      either (no high) (no new) = rw (le-ltb v inputs (omega arith), no-member new) Notes.goes
 
   -- what is behind the list stays
   pub record Longer (l m : List ℕ) : Type 0 where

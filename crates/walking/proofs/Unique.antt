@@ -1,5 +1,5 @@
 -- The promises leave no choice: two outcomes that one of them allows are equal.
-use Prim.Native.Nat.{ℕ, _+_, _-_, _<_}
+use Prim.Native.Nat.{ℕ, _-_, _<_}
 use native.Mathlib.Decide.{decLt}
 use native.Mathlib.Omega.{arith}
 use mathlib.Core.Path.{_≡_, refl, ap, sym, _∙_}
@@ -7,12 +7,13 @@ use mathlib.Core.Bool.{Bool}
 use mathlib.Core.Logic.{_⊎_, inl, inr}
 use mathlib.Core.List.{List, _++_}
 use lib.ListN.{length, getD, drop}
-use lib.Seq.{ext-getD, getD-drop}
+use lib.Seq.{ext-getD}
 use Rattle.theory.specs.Net.{Net}
 use Rattle.walking.specs.declared.Ordering.{Ordering}
 use Rattle.walking.specs.declared.Ordering.the-variants.{LoopAt}
 use Rattle.walking.specs.Arrays.{Marks}
 use Rattle.walking.specs.Promises.{LoopRuling, OrderMade, entriesOf, WalkMade, CutRuled}
+use Rattle.walking.proofs.Entries.{drop-agrees}
 use Rattle.walking.proofs.Tests.{tells-one}
 
 -- one ruling on loops
@@ -35,23 +36,20 @@ order-one {net} {order₀} a b =
     (same, a .entries ∙ ap (λ (x : Ordering). entriesOf net x ++ drop (net .nodes - net .inputs) order₀) same ∙ sym (b .entries), a .cleared ∙ sym (b .cleared))
 
 -- marks of one property, and the same beyond
-marks-one : {P : ℕ → Type 0} (nodes : ℕ) (a b : List ℕ) → Marks nodes P a → Marks nodes P b → length a ≡ length b → drop nodes a ≡ drop nodes b → a ≡ b
-marks-one {P} nodes a b m n size beyond = ext-getD 0 a b size (λ i _. either i (decLt i nodes))
+pub marks-inside : {P : ℕ → Type 0} {nodes : ℕ} {a b : List ℕ} → Marks nodes P a → Marks nodes P b → (i : ℕ) → i < nodes → getD a i 0 ≡ getD b i 0
+marks-inside {a = a} {b = b} m n i low = inside (m .bit i low) (n .bit i low)
   where
-    inside : (i : ℕ) → i < nodes → (getD a i 0 ≡ 0) ⊎ (getD a i 0 ≡ 1) → (getD b i 0 ≡ 0) ⊎ (getD b i 0 ≡ 1) → getD a i 0 ≡ getD b i 0
-    inside i low (inl p) (inl q) = p ∙ sym q
-    inside i low (inr p) q = p ∙ sym (n .marked i low (m .holds i low p))
-    inside i low (inl p) (inr q) = m .marked i low (n .holds i low q) ∙ sym q
+    inside : (getD a i 0 ≡ 0) ⊎ (getD a i 0 ≡ 1) → (getD b i 0 ≡ 0) ⊎ (getD b i 0 ≡ 1) → getD a i 0 ≡ getD b i 0
+    inside (inl p) (inl q) = p ∙ sym q
+    inside (inr p) q = p ∙ sym (n .marked i low (m .holds i low p))
+    inside (inl p) (inr q) = m .marked i low (n .holds i low q) ∙ sym q
 
+pub marks-one : {P : ℕ → Type 0} (nodes : ℕ) (a b : List ℕ) → Marks nodes P a → Marks nodes P b → length a ≡ length b → drop nodes a ≡ drop nodes b → a ≡ b
+marks-one nodes a b m n size beyond = ext-getD 0 a b size (λ i _. either i (decLt i nodes))
+  where
     either : (i : ℕ) → Dec (i < nodes) → getD a i 0 ≡ getD b i 0
-    either i (yes low) = inside i low (m .bit i low) (n .bit i low)
-    either i (no high) =
-        let whole : nodes + (i - nodes) ≡ i = omega arith in
-        ap (λ (j : ℕ). getD a j 0) (sym whole)
-        ∙ sym (getD-drop nodes a (i - nodes) 0)
-        ∙ ap (λ (l : List ℕ). getD l (i - nodes) 0) beyond
-        ∙ getD-drop nodes b (i - nodes) 0
-        ∙ ap (λ (j : ℕ). getD b j 0) whole
+    either i (yes low) = marks-inside m n i low
+    either i (no high) = drop-agrees nodes a b beyond i (omega arith)
 
 pub walk-one : {net : Net} {leaves : List ℕ} {t : ℕ} {walked₀ met₀ walked met walked′ met′ : List ℕ} →
     WalkMade net leaves t walked₀ met₀ walked met → WalkMade net leaves t walked₀ met₀ walked′ met′ → (walked ≡ walked′) × (met ≡ met′)

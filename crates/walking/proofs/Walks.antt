@@ -14,9 +14,9 @@ use Rattle.theory.specs.Walk.{Walked, Met}
 use Rattle.theory.proofs.Walks.{reader-is-gate, walked-node}
 use Rattle.theory.proofs.Decisions.{decide-member}
 use Rattle.walking.specs.Arrays.{Ordered, Marks}
-use Rattle.walking.specs.Sweeps.{among}
+use Rattle.theory.specs.Lists.{isMember}
 use Rattle.walking.specs.Walking.{markOne, markOpen, Passed, Turned}
-use Rattle.walking.proofs.Entries.{place-of, member-at, one-place, among-member, not-among}
+use Rattle.walking.proofs.Entries.{place-of, member-at, one-place, is-member, no-member}
 
 -- Marks at the nodes of a list that are no leaves
 
@@ -71,8 +71,8 @@ module _ (leaves : List ℕ) where
           }
 
       either : Dec (List·Memᴰ u leaves) → Opened leaves (u ∷ []) marks (markOne leaves marks u)
-      either (yes here) = rw (among-member here) (leaf here)
-      either (no out) = rw (not-among out) (opened out)
+      either (yes here) = rw (is-member here) (leaf here)
+      either (no out) = rw (no-member out) (opened out)
 
   opened-on : {u : ℕ} {us marks marks′ marks″ : List ℕ} → Opened leaves (u ∷ []) marks marks′ → Opened leaves us marks′ marks″ → Opened leaves (u ∷ us) marks marks″
   opened-on {u} {us} {marks} {marks′} {marks″} a b =
@@ -248,12 +248,12 @@ module _ (net : Net) (leaves : List ℕ) (t : ℕ) (order : List ℕ) where
 
 module _ {leaves walked met walked′ met′ : List ℕ} {v : ℕ} where
   pub leaf-met : List·Memᴰ v leaves → walked′ ≡ walked → met′ ≡ set met v 1 → Passed leaves (v ∷ []) walked met walked′ met′
-  unfolding markOpen among
-  leaf-met leaf p q = record { walks = p ∙ rw (among-member leaf); meets = q }
+  unfolding markOpen isMember
+  leaf-met leaf p q = record { walks = p ∙ rw (is-member leaf); meets = q }
 
   pub open-met : (List·Memᴰ v leaves → ⊥) → walked′ ≡ set walked v 1 → met′ ≡ set met v 1 → Passed leaves (v ∷ []) walked met walked′ met′
-  unfolding markOpen among
-  open-met out p q = record { walks = p ∙ rw (not-among out); meets = q }
+  unfolding markOpen isMember
+  open-met out p q = record { walks = p ∙ rw (no-member out); meets = q }
 
 pub record PassLeft (leaves us walked₀ met₀ walked met : List ℕ) (i : ℕ) : Type 0 where
   pub low : i ≤ length us

@@ -9,7 +9,7 @@ use lib.ListN.{length, getD, set, take, drop}
 use lib.Dec.{ltb}
 use Rattle.theory.specs.Lists.{NoRepeats}
 use Rattle.walking.specs.Arrays.{Drawn, Marks}
-use Rattle.walking.specs.Sweeps.{among}
+use Rattle.theory.specs.Lists.{isMember}
 
 -- A bool that tells whether P holds.
 pub record Tells (P : Type 0) (r : Bool) : Type 0 where
@@ -67,7 +67,7 @@ pub record Listed (inputs nodes : ℕ) (fan count list marks list′ marks′ : 
 
 -- a node's turn in the search back: listed, unless it is an input or listed
 unfoldable pub noted : (inputs : ℕ) → List ℕ → ℕ → List ℕ
-noted inputs l v = cond (ltb v inputs || among v l) l (l ++ (v ∷ []))
+noted inputs l v = cond (ltb v inputs || isMember v l) l (l ++ (v ∷ []))
 
 unfoldable pub notedAll : (inputs : ℕ) → List ℕ → List ℕ → List ℕ
 notedAll inputs l [] = l

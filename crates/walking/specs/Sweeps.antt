@@ -1,23 +1,20 @@
 -- The order of the gates: by sweeps. In a sweep the gates are taken in id order, and a gate is placed as soon as each of its fanins is an input
 -- or placed, earlier in this sweep or in a sweep before. So the order is by sweep, then by id, and there is no choice in it.
 use Prim.Native.Nat.{ℕ, zero, suc, _-_}
-use mathlib.Core.Bool.{Bool, true, false, cond, _||_, _&&_}
+use mathlib.Core.Bool.{Bool, true, cond, _||_, _&&_}
 use mathlib.Core.List.{List, [], _∷_, _++_}
-use lib.Dec.{eqb, ltb}
+use lib.Dec.{ltb}
 use Rattle.theory.specs.Net.{Net}
-
-unfoldable pub among : ℕ → List ℕ → Bool
-among v [] = false
-among v (u ∷ l) = eqb v u || among v l
+use Rattle.theory.specs.Lists.{isMember}
 
 -- each of the nodes is an input or placed
 unfoldable pub ready : Net → (placed : List ℕ) → List ℕ → Bool
 ready net placed [] = true
-ready net placed (u ∷ us) = (ltb u (net .inputs) || among u placed) && ready net placed us
+ready net placed (u ∷ us) = (ltb u (net .inputs) || isMember u placed) && ready net placed us
 
 -- gate v's turn in a sweep
 unfoldable pub turn : Net → (placed : List ℕ) → ℕ → List ℕ
-turn net placed v = cond (among v placed) placed (cond (ready net placed (net .fanins v)) (placed ++ (v ∷ [])) placed)
+turn net placed v = cond (isMember v placed) placed (cond (ready net placed (net .fanins v)) (placed ++ (v ∷ [])) placed)
 
 -- the turns of `left` gates, from gate v on
 unfoldable pub turnsFrom : Net → (left v : ℕ) → (placed : List ℕ) → List ℕ

@@ -4,12 +4,12 @@ use mathlib.Core.Path.{_≡_}
 use mathlib.Core.Bool.{cond}
 use mathlib.Core.List.{List, [], _∷_}
 use lib.ListN.{length, getD, set}
-use Rattle.walking.specs.Sweeps.{among}
+use Rattle.theory.specs.Lists.{isMember}
 use Rattle.walking.specs.Listing.{FaninsBelow}
 
 -- a node's mark, unless it is a leaf
 abbrev pub markOne : (leaves marks : List ℕ) → ℕ → List ℕ
-markOne leaves marks u = cond (among u leaves) marks (set marks u 1)
+markOne leaves marks u = cond (isMember u leaves) marks (set marks u 1)
 
 unfoldable pub markOpen : (leaves marks : List ℕ) → List ℕ → List ℕ
 markOpen leaves marks [] = marks

@@ -4,7 +4,7 @@ use native.Mathlib.Omega.{arith}
 use mathlib.Core.Path.{_≡_, refl, ap, sym, subst}
 use mathlib.Core.Bool.{true}
 use mathlib.Core.List.{List}
-use Rattle.theory.specs.Net.{Net, Gate}
+use Rattle.theory.specs.Net.{Net}
 use Rattle.theory.specs.Walk.{Cut}
 use Rattle.theory.specs.Cover.{Luts}
 use Rattle.drawing.specs.declared.Node.{Node}

@@ -1,13 +1,13 @@
 -- 30 from arrays: along the order each root gets its depth; the greatest over the outputs is the cover's; and it is the only one.
-use Prim.Native.Nat.{ℕ, suc, _+_, _*_, _-_, _≤_, _<_}
+use Prim.Native.Nat.{ℕ, _+_, _-_, _≤_, _<_}
 use native.Mathlib.Decide.{ℕ-discrete, decLt}
 use native.Mathlib.Numerals.{add-one}
 use native.Mathlib.Omega.{arith}
-use mathlib.Core.Path.{_≡_, refl, ap, sym, subst, _∙_}
-use mathlib.Core.Bool.{Bool, true}
+use mathlib.Core.Path.{_≡_, refl, sym, subst, _∙_}
+use mathlib.Core.Bool.{true}
 use mathlib.Core.Logic.{_⊎_, inl, inr}
 use mathlib.Core.List.{List, [], _∷_, map, List·Memᴰ, List·Memᴰ·head, List·Memᴰ·tail}
-use lib.ListN.{length, getD, take, drop, set, length-set, length-drop}
+use lib.ListN.{length, getD, take, set, length-set, length-drop}
 use lib.Seq.{getD-set-same, getD-set-other}
 use Rattle.theory.specs.Net.{Net, Gate}
 use Rattle.theory.specs.Lists.{greatest}
@@ -21,8 +21,8 @@ use Rattle.covering.specs.Scratch.{Cleared}
 use Rattle.covering.specs.Covers.{isRoot, lutsIn, DepthAsked}
 use Rattle.covering.proofs.Stores.{stored-or-kept}
 use Rattle.covering.proofs.Orders.{gate-of, gate-above, gate-below, order-gate, order-once, gate-place, fanin-before}
-use Rattle.covering.proofs.Covered.{root-marked, marked-root}
-use Rattle.sheet.specs.Rules.{CoverKept, DepthKept}
+use Rattle.covering.proofs.Covered.{root-marked}
+use Rattle.sheet.specs.Rules.{CoverKept}
 use Rattle.weighing.specs.declared.whole.WholeJudged.{WholeJudged}
 use Rattle.weighing.specs.declared.whole.WholeJudged.the-variants as judged
 use Rattle.weighing.specs.Laid.{Beyond}

@@ -1,8 +1,8 @@
 -- Pass three from arrays: the rulings on a root's leaves and table, on a node, and on the nodes in turn.
 use Prim.Native.Nat.{ℕ, _+_, _*_, _-_, _≤_, _<_}
-use native.Mathlib.Decide.{decLt, ℕ-discrete}
+use native.Mathlib.Decide.{ℕ-discrete}
 use native.Mathlib.Omega.{arith}
-use mathlib.Core.Path.{_≡_, refl, ap, sym, subst, _∙_}
+use mathlib.Core.Path.{_≡_, refl, sym, subst}
 use mathlib.Core.Bool.{Bool, true, false}
 use mathlib.Core.List.{List}
 use lib.ListN.{length, getD, take, drop, length-drop}
@@ -15,19 +15,19 @@ use Rattle.theory.specs.Cover.{Luts}
 use Rattle.theory.specs.Lookup.{ConeTable}
 use Rattle.theory.proofs.Cones.{cone-table-only}
 use Rattle.drawing.specs.Table.{netIn, tablesIn}
-use Rattle.walking.specs.Promises.{WalkRoom, WalkMade, CutRuled}
-use Rattle.walking.specs.Listing.{Tells, faninsAt}
+use Rattle.walking.specs.Promises.{WalkRoom, CutRuled}
+use Rattle.walking.specs.Listing.{faninsAt}
 use Rattle.walking.proofs.Entries.{fanins-in, false-not-true}
 use Rattle.walking.proofs.Orders.{drawn-ranked}
 use Rattle.walking.proofs.Listings.{drawn-span}
 use Rattle.covering.specs.Scratch.{Cleared}
 use Rattle.covering.specs.Cones.{ConeAsked, ConeAnswered}
-use Rattle.covering.specs.Covers.{lutsIn, isRoot}
+use Rattle.covering.specs.Covers.{lutsIn}
 use Rattle.covering.proofs.Orders.{gate-of}
 use Rattle.covering.proofs.Covered.{root-marked, marked-root}
 use Rattle.weighing.specs.declared.luts.LutsJudged.{LutsJudged}
 use Rattle.weighing.specs.declared.luts.LutsJudged.the-variants as judged
-use Rattle.weighing.specs.Laid.{DrawingLaid, LutsLaid, Beyond}
+use Rattle.weighing.specs.Laid.{Beyond}
 use Rattle.weighing.specs.PassThree.{LutKept, KeptBelow, LutsRuled, NodeRuled, LutsAsked, LutsAnswered, CutAsked, CutTold, FunctionAsked, FunctionTold, NodeAsked, NodeJudged, FirstJudged}
 use Rattle.weighing.proofs.Scratch.{beyond-same, beyond-more, beyond-cleared, cleared-beyond, beyond-dropped}
 

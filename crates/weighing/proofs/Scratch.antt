@@ -1,10 +1,9 @@
 -- Scratch: what lies beyond the nodes stays, and is left so when the rest is cleared.
-use Prim.Native.Nat.{ℕ, _+_, _-_, _≤_}
-use native.Mathlib.Omega.{arith}
-use mathlib.Core.Path.{_≡_, refl, ap, sym, _∙_}
+use Prim.Native.Nat.{ℕ}
+use mathlib.Core.Path.{_≡_, refl, _∙_}
 use mathlib.Core.List.{List}
-use lib.ListN.{length, getD, drop}
-use lib.Seq.{getD-drop}
+use lib.ListN.{length, drop}
+use Rattle.walking.proofs.Entries.{drop-agrees}
 use Rattle.covering.specs.Scratch.{Cleared}
 use Rattle.weighing.specs.Laid.{Beyond}
 
@@ -21,11 +20,4 @@ pub cleared-beyond : {nodes : ℕ} {a b c : List ℕ} → Beyond nodes a b → C
 cleared-beyond p q = record { long = q .long ∙ p .long; zero = q .zero; beyond = λ v out. q .beyond v out ∙ p .beyond v out }
 
 pub beyond-dropped : (nodes : ℕ) (before after : List ℕ) → length after ≡ length before → drop nodes after ≡ drop nodes before → Beyond nodes before after
-beyond-dropped nodes before after long same = record { long = long; beyond = at }
-  where
-    at : (v : ℕ) → nodes ≤ v → getD after v 0 ≡ getD before v 0
-    at v out =
-        let split : nodes + (v - nodes) ≡ v = omega arith in
-        let old = rw split at (getD-drop nodes before (v - nodes) 0) in
-        let new = rw split at (getD-drop nodes after (v - nodes) 0) in
-        sym new ∙ ap (λ (l : List ℕ). getD l (v - nodes) 0) same ∙ old
+beyond-dropped nodes before after long same = record { long = long; beyond = λ v out. drop-agrees nodes after before same v out }

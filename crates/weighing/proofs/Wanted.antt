@@ -1,10 +1,10 @@
 -- 28 from arrays: the marks are at the gates wanted, and where they agree with the roots the rule is kept.
-use Prim.Native.Nat.{ℕ, _+_, _*_, _-_, _≤_, _<_}
+use Prim.Native.Nat.{ℕ, _+_, _*_, _≤_, _<_}
 use native.Mathlib.Decide.{ℕ-discrete}
 use native.Mathlib.Nat.{zero-add}
 use native.Mathlib.Omega.{arith}
-use mathlib.Core.Path.{_≡_, refl, ap, sym, subst, _∙_}
-use mathlib.Core.Bool.{Bool, true}
+use mathlib.Core.Path.{_≡_, ap, sym, subst, _∙_}
+use mathlib.Core.Bool.{true}
 use mathlib.Core.Logic.{_⊎_, inl, inr, ⊎-elim}
 use mathlib.Core.List.{List, List·Memᴰ}
 use lib.ListN.{length, getD, take, drop, length-drop}
@@ -14,16 +14,15 @@ use Rattle.theory.specs.Cover.{Luts, Wanted}
 use Rattle.drawing.specs.Table.{netIn}
 use Rattle.walking.specs.Arrays.{Marks}
 use Rattle.walking.specs.Listing.{faninsAt}
-use Rattle.walking.proofs.Entries.{fanins-in, fanins-out, member-of-part, part-place}
+use Rattle.walking.proofs.Entries.{fanins-in, member-of-part, part-place}
 use Rattle.covering.specs.Scratch.{Cleared}
-use Rattle.covering.specs.Covers.{isRoot, lutsIn, GatesFit, GateAmong, GatesMarked, MarksFit}
+use Rattle.covering.specs.Covers.{lutsIn, GatesFit, GateAmong, GatesMarked, MarksFit}
 use Rattle.covering.proofs.Orders.{gate-of, gate-above, gate-below}
 use Rattle.covering.proofs.Covered.{root-marked, marked-root}
 use Rattle.sheet.specs.Rules.{CoverKept}
 use Rattle.weighing.specs.declared.whole.WholeJudged.{WholeJudged}
-use Rattle.weighing.specs.declared.whole.WholeJudged.the-variants as judged
 use Rattle.weighing.specs.Laid.{Beyond}
-use Rattle.weighing.specs.PassFour.{CoveredBelow, CoverRuled, LeavesFit, LeavesWanted, CoverAsked, GateWanted, WantedMarked, Compared, CoverTold}
+use Rattle.weighing.specs.PassFour.{CoverRuled, LeavesFit, LeavesWanted, CoverAsked, GateWanted, WantedMarked, Compared, CoverTold}
 use Rattle.weighing.proofs.Scratch.{beyond-same, beyond-more, beyond-cleared, cleared-beyond}
 
 -- Marks that grow

@@ -1,5 +1,5 @@
 -- Pass four, on the whole: "28, then 30". The leaves lie in arrays as fanins do, so they are a net of their own, whose order is the drawing's.
-use Prim.Native.Nat.{ℕ, _+_, _*_, _-_, _≤_, _<_}
+use Prim.Native.Nat.{ℕ, _+_, _*_, _≤_, _<_}
 use mathlib.Core.Path.{_≡_}
 use mathlib.Core.Bool.{true}
 use mathlib.Core.List.{List, map, List·Memᴰ}

@@ -10,10 +10,6 @@ use Rattle.drawing.proofs.Wholes.{reads-lent, reads-no-head}
 use borrow.Author.Needs.{needs}
 use Rattle.drawing.proofs.read.Statement.{statement}
 use Rattle.drawing.proofs.read.Tie as tie
-use Rattle.drawing.proofs.read.Reads as reads
-use Rattle.drawing.proofs.read.Lts as lts
-use Rattle.drawing.proofs.fields.head_ruling.Reads as head-ruling-reads
-use Rattle.drawing.proofs.read_body.Reads as read-body-reads
 
 -- src/lib.rt:110:9
 returns : tie.Need-returns

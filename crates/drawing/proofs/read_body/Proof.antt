@@ -9,12 +9,6 @@ use Rattle.drawing.proofs.Wholes.{long-enough, as-headed, outputs-as-he
 use borrow.Author.Needs.{needs}
 use Rattle.drawing.proofs.read_body.Statement.{statement}
 use Rattle.drawing.proofs.read_body.Tie as tie
-use Rattle.drawing.proofs.read_body.Reads as reads
-use Rattle.drawing.proofs.read_body.Lts as lts
-use Rattle.drawing.proofs.filling.put_inputs.Reads as put-inputs-reads
-use Rattle.drawing.proofs.filling.read_gates.Reads as read-gates-reads
-use Rattle.drawing.proofs.filling.read_outputs.Reads as read-outputs-reads
-use Rattle.drawing.proofs.sound_head.Reads as sound-head-reads
 
 -- src/lib.rt:81:9
 sound-head-requires : tie.Need-sound-head-requires

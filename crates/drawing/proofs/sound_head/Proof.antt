@@ -5,9 +5,6 @@ use denote.Ref.{now}
 use Rattle.drawing.proofs.SoundFields.{head-sound}
 use Rattle.drawing.proofs.sound_head.Statement.{statement}
 use Rattle.drawing.proofs.sound_head.Tie as tie
-use Rattle.drawing.proofs.sound_head.Reads as reads
-use Rattle.drawing.proofs.sound_head.Lts as lts
-use Rattle.drawing.proofs.bytes.byte_at.Reads as byte-at-reads
 
 -- src/lib.rt:63:30
 shared-slice-read-t3 : tie.Need-shared-slice-read-t3

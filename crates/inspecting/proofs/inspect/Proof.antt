@@ -1,8 +1,10 @@
 -- `inspect` meets its contract: the table is taken or refused, and the sheet of a table that is taken is judged.
 use native.Mathlib.Omega.{arith}
-use mathlib.Core.Path.{refl, _∙_}
+use mathlib.Core.Path.{subst}
 use denote.Ref.{now}
-use Rattle.inspecting.proofs.Taken.{table-told, says-refused, says-loop, never-lent, table-laid, says-taken}
+use Rattle.taking.specs.Judged.{Says}
+use Rattle.taking.proofs.Judged.{says, table-taken, never-lent}
+use Rattle.inspecting.proofs.Taken.{says-refused, says-loop, table-laid, says-taken}
 use borrow.Author.Needs.{needs}
 use Rattle.inspecting.proofs.inspect.Statement.{statement}
 use Rattle.inspecting.proofs.inspect.Tie as tie
@@ -56,22 +58,19 @@ slice-aggregate-judge-sheet-5 : tie.Need-slice-aggregate-judge-sheet-5
 slice-aggregate-judge-sheet-5 c = search needs
 
 judge-sheet-requires : tie.Need-judge-sheet-requires
-judge-sheet-requires c κs =
-    let a = c .before .before .before .before .before .before .before .before .before .before .before .before .before .before .before .before .before .before .before .before .before .before .before .args in
-    let kept = c .before .before .before .before .before .before .before .before .before .before .before .before .before .before .take-table .kept in
-    table-laid _ _ _ (now (a .table)) _ _ _ _ _ _ (omega (arith, kept .1 .0)) (omega (arith, kept .1 .1 .0)) (omega (arith, kept .1 .1 .1 .0)) (omega (arith, kept .1 .1 .1 .1 .0)) (omega (arith, kept .1 .1 .1 .1 .1 .0)) (omega (arith, kept .1 .1 .1 .1 .1 .1 .0)) (rw (c .before .before .before .before .before .before .taken3 .given .1) at (table-told _ _ _ (now (a .table)) refl refl (c .before .before .before .before .before .before .before .before .before .before .before .before .before .before .take-table .ensures)))
+judge-sheet-requires c κs = table-laid (table-taken (c .before .before .before .before .before .before .before .before .before .before .before .before .before .before .take-table .ensures) (omega arith) (omega arith) (omega arith) (omega arith) (omega arith) (omega arith) (c .before .before .before .before .before .before .taken3 .given .1) (c .before .before .before .before .before .before .before .before .before .before .before .before .before .before .take-table .kept .1 .0) (c .before .before .before .before .before .before .before .before .before .before .before .before .before .before .take-table .kept .1 .1 .0) (c .before .before .before .before .before .before .before .before .before .before .before .before .before .before .take-table .kept .1 .1 .1 .0) (c .before .before .before .before .before .before .before .before .before .before .before .before .before .before .take-table .kept .1 .1 .1 .1 .0) (c .before .before .before .before .before .before .before .before .before .before .before .before .before .before .take-table .kept .1 .1 .1 .1 .1 .0))
 
 returns : tie.Need-returns
-returns c = let a = c .before .before .before .before .before .before .before .before .before .before .before .before .before .before .before .before .before .before .args in says-refused (now (a .sheet)) (rw (c .before .taken .given .1) at (table-told _ _ _ (now (a .table)) refl refl (c .before .before .before .before .before .before .before .before .before .take-table .ensures)))
+returns c = says-refused (now (c .before .before .before .before .before .before .before .before .before .before .before .before .before .before .before .before .before .before .args .sheet)) (subst (Says (now (c .before .before .before .before .before .before .before .before .before .before .before .before .before .before .before .before .before .before .args .table))) (c .before .taken .given .1) (says (c .before .before .before .before .before .before .before .before .before .take-table .ensures) (omega arith) (omega arith) (omega arith) (omega arith) (omega arith) (omega arith)))
 
 returns-2 : tie.Need-returns-2
-returns-2 c = let a = c .before .before .before .before .before .before .before .before .before .before .before .before .before .before .before .before .before .before .args in says-loop (now (a .sheet)) (rw (c .before .taken2 .given .1) at (table-told _ _ _ (now (a .table)) refl refl (c .before .before .before .before .before .before .before .before .before .take-table .ensures)))
+returns-2 c = says-loop (now (c .before .before .before .before .before .before .before .before .before .before .before .before .before .before .before .before .before .before .args .sheet)) (subst (Says (now (c .before .before .before .before .before .before .before .before .before .before .before .before .before .before .before .before .before .before .args .table))) (c .before .taken2 .given .1) (says (c .before .before .before .before .before .before .before .before .before .take-table .ensures) (omega arith) (omega arith) (omega arith) (omega arith) (omega arith) (omega arith)))
 
 returns-3 : tie.Need-returns-3
-returns-3 c = let a = c .before .before .before .before .before .before .before .before .before .before .before .before .before .before .before .before .before .args in absurd (never-lent (table-told _ _ _ (now (a .table)) refl refl (c .before .before .before .before .before .before .before .before .take-table .ensures)) (c .enum-told .given .1))
+returns-3 c = absurd (never-lent (c .before .before .before .before .before .before .before .before .take-table .ensures) (omega arith) (omega arith) (omega arith) (omega arith) (omega arith) (omega arith) (c .enum-told .given .1))
 
 returns-4 : tie.Need-returns-4
-returns-4 c = let a = c .before .before .before .before .before .before .before .before .before .before .before .before .before .before .before .before .before .before .before .before .before .before .before .before .args in says-taken _ _ _ (now (a .table)) (now (a .sheet)) _ _ _ _ _ _ (rw (c .before .before .before .before .before .before .before .taken3 .given .1) at (table-told _ _ _ (now (a .table)) refl refl (c .before .before .before .before .before .before .before .before .before .before .before .before .before .before .before .take-table .ensures))) (c .judge-sheet .ensures)
+returns-4 c = says-taken (now (c .before .before .before .before .before .before .before .before .before .before .before .before .before .before .before .before .before .before .before .before .before .before .before .before .args .sheet)) (table-taken (c .before .before .before .before .before .before .before .before .before .before .before .before .before .before .before .take-table .ensures) (omega arith) (omega arith) (omega arith) (omega arith) (omega arith) (omega arith) (c .before .before .before .before .before .before .before .taken3 .given .1) (c .before .before .before .before .before .before .before .before .before .before .before .before .before .before .before .take-table .kept .1 .0) (c .before .before .before .before .before .before .before .before .before .before .before .before .before .before .before .take-table .kept .1 .1 .0) (c .before .before .before .before .before .before .before .before .before .before .before .before .before .before .before .take-table .kept .1 .1 .1 .0) (c .before .before .before .before .before .before .before .before .before .before .before .before .before .before .before .take-table .kept .1 .1 .1 .1 .0) (c .before .before .before .before .before .before .before .before .before .before .before .before .before .before .before .take-table .kept .1 .1 .1 .1 .1 .0)) (c .judge-sheet .ensures)
 
 pub inspect-spec : {M : Type 1} → statement M
 inspect-spec =

@@ -5,7 +5,7 @@ use mathlib.Core.List.{List, _++_}
 use denote.Ref.{now}
 use lib.ListN.{length, take, length-append}
 use Rattle.listing.specs.Text.{each, headLine}
-use Rattle.listing.specs.Arrays.{Arrays, arraysOf, lutText, outputText, markedFrom, room}
+use Rattle.listing.specs.Arrays.{Arrays, arraysOf, lutText, outputText, markedFrom}
 use Rattle.listing.proofs.Puts.{put-then, put-wrote}
 use Rattle.listing.proofs.Listed.{listing-parts}
 use Rattle.listing.proofs.Rooms.{Small, listing-room}

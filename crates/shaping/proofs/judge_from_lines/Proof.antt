@@ -1,5 +1,4 @@
 -- `judge_from_lines` meets its contract: the lines' answer, then what follows them.
-use Prim.Native.Nat.{ℕ}
 use denote.Ref.{now}
 use Rattle.shaping.specs.Terms.{dueOf}
 use Rattle.shaping.proofs.FieldRuns.{head-end, lines-faulty, lines-then}
@@ -7,11 +6,6 @@ use native.Mathlib.Omega.{arith}
 use borrow.Author.Needs.{needs}
 use Rattle.shaping.proofs.judge_from_lines.Statement.{statement}
 use Rattle.shaping.proofs.judge_from_lines.Tie as tie
-use Rattle.shaping.proofs.judge_from_lines.Reads as reads
-use Rattle.shaping.proofs.judge_from_lines.Lts as lts
-use Rattle.shaping.proofs.reader.passed.Reads as passed-reads
-use Rattle.shaping.proofs.judge_from_luts.Reads as judge-from-luts-reads
-use Rattle.shaping.proofs.runs.judge_lines.Reads as judge-lines-reads
 
 passed-requires : tie.Need-passed-requires
 passed-requires c κs = head-end (dueOf (c .before .args .terms)) (now (c .before .args .sheet)) (c .before .pre .1 .1)

@@ -6,10 +6,6 @@ use native.Mathlib.Omega.{arith}
 use borrow.Author.Needs.{needs}
 use Rattle.shaping.proofs.judge_from_luts.Statement.{statement}
 use Rattle.shaping.proofs.judge_from_luts.Tie as tie
-use Rattle.shaping.proofs.judge_from_luts.Reads as reads
-use Rattle.shaping.proofs.judge_from_luts.Lts as lts
-use Rattle.shaping.proofs.numbers.small_at.Reads as small-at-reads
-use Rattle.shaping.proofs.runs.judge_luts.Reads as judge-luts-reads
 
 add-small-at : tie.Need-add-small-at
 add-small-at c = omega (arith, head-inside (dueOf (c .before .args .terms)) (now (c .before .args .sheet)) (c .before .pre .1 .0))

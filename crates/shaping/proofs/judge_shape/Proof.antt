@@ -1,16 +1,11 @@
 -- `judge_shape` meets its contract: the head's ruling, then what follows the head.
 use mathlib.Core.Path.{sym, _∙_}
 use denote.Ref.{now}
-use Rattle.shaping.specs.Terms.{dueFrom}
+use Rattle.sheet.specs.Shape.{dueFrom}
 use Rattle.shaping.proofs.FieldRuns.{head-faulty, head-then}
-use native.Mathlib.Omega.{arith}
 use borrow.Author.Needs.{needs}
 use Rattle.shaping.proofs.judge_shape.Statement.{statement}
 use Rattle.shaping.proofs.judge_shape.Tie as tie
-use Rattle.shaping.proofs.judge_shape.Reads as reads
-use Rattle.shaping.proofs.judge_shape.Lts as lts
-use Rattle.shaping.proofs.fields.head_ruling.Reads as head-ruling-reads
-use Rattle.shaping.proofs.judge_from_lines.Reads as judge-from-lines-reads
 
 head-ruling-requires : tie.Need-head-ruling-requires
 head-ruling-requires c κs = search needs

@@ -2,11 +2,10 @@
 use mathlib.Core.Path.{_∙_, ap, sym}
 use denote.Ref.{now}
 use Rattle.sheet.specs.Sheet.{Sheet}
-use Rattle.shaping.specs.Terms.{dueFrom}
+use Rattle.sheet.specs.Shape.{dueFrom}
 use Rattle.shaping.proofs.FieldRuns.{head-inside}
 use Rattle.shaping.proofs.Found.{whole}
 use native.Mathlib.Omega.{arith}
-use borrow.Author.Needs.{needs}
 use Rattle.shaping.proofs.load_sheet.Statement.{statement}
 use Rattle.shaping.proofs.load_sheet.Tie as tie
 

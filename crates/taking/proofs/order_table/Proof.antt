@@ -4,9 +4,6 @@ use Rattle.taking.specs.Taking.{afterOrder}
 use borrow.Author.Needs.{needs}
 use Rattle.taking.proofs.order_table.Statement.{statement}
 use Rattle.taking.proofs.order_table.Tie as tie
-use Rattle.taking.proofs.order_table.Reads as reads
-use Rattle.taking.proofs.order_table.Lts as lts
-use Rattle.walking.proofs.order_gates.Reads as order-gates-reads
 
 -- src/lib.rt:35:17
 add-nodes : tie.Need-add-nodes

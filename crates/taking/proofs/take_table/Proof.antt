@@ -13,10 +13,6 @@ use Rattle.taking.proofs.Takings.{whole-room, whole-after}
 use borrow.Author.Needs.{needs}
 use Rattle.taking.proofs.take_table.Statement.{statement}
 use Rattle.taking.proofs.take_table.Tie as tie
-use Rattle.taking.proofs.take_table.Reads as reads
-use Rattle.taking.proofs.take_table.Lts as lts
-use Rattle.drawing.proofs.read.Reads as read-reads
-use Rattle.taking.proofs.order_table.Reads as order-table-reads
 
 -- src/lib.rt:56:9
 returns : tie.Need-returns

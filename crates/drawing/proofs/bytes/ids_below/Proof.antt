@@ -1,6 +1,4 @@
 -- `ids_below` meets its contract: no id passed so far is `nodes` or more.
-use mathlib.Core.Path.{_∙_}
-use borrow.Author.Tests.{lt-leb}
 use native.Mathlib.Omega.{arith}
 use Prim.Native.Nat.{_≤_, _-_}
 use mathlib.Core.Path.{_≡_}
@@ -11,9 +9,6 @@ use Rattle.drawing.specs.Bytes.{someFrom}
 use Rattle.drawing.proofs.Digits.{some-from-none, some-from-more, some-from-at}
 use Rattle.drawing.proofs.bytes.ids_below.Statement.{statement}
 use Rattle.drawing.proofs.bytes.ids_below.Tie as tie
-use Rattle.drawing.proofs.bytes.ids_below.Reads as reads
-use Rattle.drawing.proofs.bytes.ids_below.Lts as lts
-use Rattle.drawing.proofs.bytes.byte_at.Reads as byte-at-reads
 
 abbrev Inv-loop : tie.InvT-loop
 Inv-loop s at count nodes i₀ i = (i ≤ count) × (someFrom nodes (take i (drop at s)) ≡ false)

@@ -9,9 +9,6 @@ use Rattle.drawing.specs.Bytes.{numberAt}
 use Rattle.drawing.proofs.Digits.{number-none, number-more, byte-room, word-room}
 use Rattle.drawing.proofs.bytes.number_at.Statement.{statement}
 use Rattle.drawing.proofs.bytes.number_at.Tie as tie
-use Rattle.drawing.proofs.bytes.number_at.Reads as reads
-use Rattle.drawing.proofs.bytes.number_at.Lts as lts
-use Rattle.drawing.proofs.bytes.byte_at.Reads as byte-at-reads
 
 abbrev Inv-loop : tie.InvT-loop
 Inv-loop s at size number₀ i₀ number i = (i ≤ size) × (number ≡ numberAt s at i) × (number < 2 ^ (8 * i))

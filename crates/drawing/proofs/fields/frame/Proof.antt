@@ -9,10 +9,6 @@ use Rattle.drawing.specs.Bytes.{valueAt, lengthAt}
 use borrow.Author.Needs.{needs}
 use Rattle.drawing.proofs.fields.frame.Statement.{statement}
 use Rattle.drawing.proofs.fields.frame.Tie as tie
-use Rattle.drawing.proofs.fields.frame.Reads as reads
-use Rattle.drawing.proofs.fields.frame.Lts as lts
-use Rattle.drawing.proofs.bytes.byte_at.Reads as byte-at-reads
-use Rattle.drawing.proofs.bytes.length_at.Reads as length-at-reads
 
 -- src/fields.rt:23:8
 sub-if1 : tie.Need-sub-if1

@@ -9,20 +9,12 @@ use native.Mathlib.Omega.{arith}
 use Prim.Native.Nat.{_+_}
 use mathlib.Core.Path.{_∙_}
 use denote.Ref.{now}
-use lib.ListN.{getD}
 use borrow.Author.Tests.{eq-eqb, ne-eqb, lt-ltb, le-ltb, lt-leb, le-leb}
 use Rattle.drawing.specs.Bytes.{lengthAt}
 use Rattle.drawing.specs.Fields.{gateM}
 use borrow.Author.Needs.{needs}
 use Rattle.drawing.proofs.fields.gate_value.Statement.{statement}
 use Rattle.drawing.proofs.fields.gate_value.Tie as tie
-use Rattle.drawing.proofs.fields.gate_value.Reads as reads
-use Rattle.drawing.proofs.fields.gate_value.Lts as lts
-use Rattle.drawing.proofs.bytes.byte_at.Reads as byte-at-reads
-use Rattle.drawing.proofs.bytes.full_table.Reads as full-table-reads
-use Rattle.drawing.proofs.bytes.ids_below.Reads as ids-below-reads
-use Rattle.drawing.proofs.bytes.length_at.Reads as length-at-reads
-use Rattle.drawing.proofs.bytes.number_at.Reads as number-at-reads
 
 -- src/fields.rt:84:9
 length-at-requires : tie.Need-length-at-requires

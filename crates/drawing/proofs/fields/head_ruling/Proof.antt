@@ -3,16 +3,11 @@ use native.Mathlib.Omega.{arith}
 use mathlib.Core.Path.{sym, _∙_}
 use mathlib.Core.Bool.{false}
 use denote.Ref.{now}
-use lib.Dec.{eqb}
 use Rattle.drawing.specs.Fields.{frameRules, headRules, headVerdict}
 use Rattle.drawing.proofs.Verdicts.{frame-fits, refused-first, sound-first}
 use borrow.Author.Needs.{needs}
 use Rattle.drawing.proofs.fields.head_ruling.Statement.{statement}
 use Rattle.drawing.proofs.fields.head_ruling.Tie as tie
-use Rattle.drawing.proofs.fields.head_ruling.Reads as reads
-use Rattle.drawing.proofs.fields.head_ruling.Lts as lts
-use Rattle.drawing.proofs.fields.frame.Reads as frame-reads
-use Rattle.drawing.proofs.fields.head_value.Reads as head-value-reads
 
 -- src/fields.rt:72:9
 frame-requires : tie.Need-frame-requires

@@ -1,7 +1,6 @@
 -- `output_ruling` meets its contract: the frame's ruling, and where that is sound the value's.
 use native.Mathlib.Omega.{arith}
 use mathlib.Core.Path.{sym, _∙_}
-use mathlib.Core.Bool.{false}
 use denote.Ref.{now}
 use lib.Dec.{eqb}
 use Rattle.drawing.specs.Fields.{frameRules, outputRules, outputVerdict}
@@ -9,10 +8,6 @@ use Rattle.drawing.proofs.Verdicts.{frame-fits, refused-first, sound-fi
 use borrow.Author.Needs.{needs}
 use Rattle.drawing.proofs.fields.output_ruling.Statement.{statement}
 use Rattle.drawing.proofs.fields.output_ruling.Tie as tie
-use Rattle.drawing.proofs.fields.output_ruling.Reads as reads
-use Rattle.drawing.proofs.fields.output_ruling.Lts as lts
-use Rattle.drawing.proofs.fields.frame.Reads as frame-reads
-use Rattle.drawing.proofs.fields.output_value.Reads as output-value-reads
 
 -- src/fields.rt:137:9
 frame-requires : tie.Need-frame-requires

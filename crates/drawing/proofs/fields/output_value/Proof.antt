@@ -8,10 +8,6 @@ use Rattle.drawing.specs.Fields.{outputId}
 use borrow.Author.Needs.{needs}
 use Rattle.drawing.proofs.fields.output_value.Statement.{statement}
 use Rattle.drawing.proofs.fields.output_value.Tie as tie
-use Rattle.drawing.proofs.fields.output_value.Reads as reads
-use Rattle.drawing.proofs.fields.output_value.Lts as lts
-use Rattle.drawing.proofs.bytes.byte_at.Reads as byte-at-reads
-use Rattle.drawing.proofs.bytes.length_at.Reads as length-at-reads
 
 -- src/fields.rt:123:8
 length-at-requires : tie.Need-length-at-requires

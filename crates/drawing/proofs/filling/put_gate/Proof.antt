@@ -4,11 +4,6 @@ use Rattle.drawing.proofs.Filled.{gate-put}
 use borrow.Author.Needs.{needs}
 use Rattle.drawing.proofs.filling.put_gate.Statement.{statement}
 use Rattle.drawing.proofs.filling.put_gate.Tie as tie
-use Rattle.drawing.proofs.filling.put_gate.Reads as reads
-use Rattle.drawing.proofs.filling.put_gate.Lts as lts
-use Rattle.drawing.proofs.bytes.byte_at.Reads as byte-at-reads
-use Rattle.drawing.proofs.bytes.number_at.Reads as number-at-reads
-use Rattle.drawing.proofs.filling.put_ids.Reads as put-ids-reads
 
 -- src/filling.rt:63:13
 cast-v : tie.Need-cast-v

@@ -9,9 +9,6 @@ use denote.Ref.{now}
 use Rattle.drawing.proofs.Stores.{sets-of-part}
 use Rattle.drawing.proofs.filling.put_ids.Statement.{statement}
 use Rattle.drawing.proofs.filling.put_ids.Tie as tie
-use Rattle.drawing.proofs.filling.put_ids.Reads as reads
-use Rattle.drawing.proofs.filling.put_ids.Lts as lts
-use Rattle.drawing.proofs.bytes.byte_at.Reads as byte-at-reads
 
 abbrev Inv-loop : tie.InvT-loop
 Inv-loop s at count fan₀ to i₀ fan i = (i ≤ count) × (length fan ≡ length fan₀) × (fan ≡ sets fan₀ to (take i (drop at s)))

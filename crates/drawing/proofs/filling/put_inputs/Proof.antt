@@ -9,8 +9,6 @@ use denote.Ref.{now}
 use Rattle.drawing.proofs.Stores.{sets-of-same}
 use Rattle.drawing.proofs.filling.put_inputs.Statement.{statement}
 use Rattle.drawing.proofs.filling.put_inputs.Tie as tie
-use Rattle.drawing.proofs.filling.put_inputs.Reads as reads
-use Rattle.drawing.proofs.filling.put_inputs.Lts as lts
 
 abbrev Inv-loop : tie.InvT-loop
 Inv-loop count₀ inputs i₀ count i = (i ≤ inputs) × (length count ≡ length count₀) × (count ≡ sets count₀ 0 (replicate i 0))

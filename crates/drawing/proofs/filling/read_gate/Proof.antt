@@ -8,11 +8,6 @@ use Rattle.drawing.proofs.SoundFields.{gate-sound}
 use borrow.Author.Needs.{needs}
 use Rattle.drawing.proofs.filling.read_gate.Statement.{statement}
 use Rattle.drawing.proofs.filling.read_gate.Tie as tie
-use Rattle.drawing.proofs.filling.read_gate.Reads as reads
-use Rattle.drawing.proofs.filling.read_gate.Lts as lts
-use Rattle.drawing.proofs.bytes.length_at.Reads as length-at-reads
-use Rattle.drawing.proofs.fields.gate_ruling.Reads as gate-ruling-reads
-use Rattle.drawing.proofs.filling.put_gate.Reads as put-gate-reads
 
 -- src/filling.rt:84:9
 gate-ruling-requires : tie.Need-gate-ruling-requires

@@ -9,9 +9,6 @@ use Rattle.drawing.specs.Filling.{GatesDone, endOf}
 use Rattle.drawing.proofs.Filled.{GatesLeft, gates-none, gates-stop, gates-turn, not-ended, same-end}
 use Rattle.drawing.proofs.filling.read_gates.Statement.{statement}
 use Rattle.drawing.proofs.filling.read_gates.Tie as tie
-use Rattle.drawing.proofs.filling.read_gates.Reads as reads
-use Rattle.drawing.proofs.filling.read_gates.Lts as lts
-use Rattle.drawing.proofs.filling.read_gate.Reads as read-gate-reads
 
 abbrev Inv-loop : tie.InvT-loop
 Inv-loop s k inputs nodes fan₀ count₀ rows₀ at₀ v₀ fan count rows at v = GatesLeft s (k .leaves) inputs nodes (linesOf fan₀ count₀ rows₀) (linesOf fan count rows) v at

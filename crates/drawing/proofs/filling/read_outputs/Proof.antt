@@ -2,7 +2,7 @@
 use native.Mathlib.Omega.{arith}
 use borrow.Author.Needs.{needs}
 use Prim.Native.Nat.{_-_}
-use mathlib.Core.Path.{refl, ap, sym, _∙_}
+use mathlib.Core.Path.{refl, sym, _∙_}
 use lib.ListN.{length}
 use denote.Ref.{now}
 use borrow.Author.Tests.{eq-eqb, ne-eqb}
@@ -10,10 +10,6 @@ use Rattle.drawing.proofs.SoundFields.{output-sound}
 use Rattle.drawing.proofs.Filled.{OutputsLeft, outputs-stop, outputs-all, outputs-turn}
 use Rattle.drawing.proofs.filling.read_outputs.Statement.{statement}
 use Rattle.drawing.proofs.filling.read_outputs.Tie as tie
-use Rattle.drawing.proofs.filling.read_outputs.Reads as reads
-use Rattle.drawing.proofs.filling.read_outputs.Lts as lts
-use Rattle.drawing.proofs.bytes.byte_at.Reads as byte-at-reads
-use Rattle.drawing.proofs.fields.output_ruling.Reads as output-ruling-reads
 
 abbrev Inv-loop : tie.InvT-loop
 Inv-loop s start nodes outputs₀ at₀ i₀ outputs at i = OutputsLeft s nodes start outputs₀ outputs at i

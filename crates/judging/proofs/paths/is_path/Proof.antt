@@ -1,4 +1,5 @@
 -- `is_path` meets its contract: the first node is taken, and the path goes on from there.
+use native.Mathlib.Omega.{arith}
 use borrow.Author.Tests.{not-true, not-false, lt-ltb, le-ltb}
 use mathlib.Core.Path.{sym, ap, _∙_}
 use mathlib.Core.Bool.{Bool, _&&_, and-false}
@@ -19,7 +20,7 @@ cast-if1 c = search needs
 returns : tie.Need-returns
 returns c =
     let a = c .before .before .before .before .before .before .before .before .args in let v = c .before .before .id-at .result .id in
-    path-refused (a .inputs) (c .before .before .before .before .before .before .before .before .pre) (c .before .before .id-at .ensures) (ap (λ (b : Bool). b && isMarked (now (a .free)) v) (le-ltb v (a .inputs) (c .if1 .taken)))
+    path-refused (a .inputs) (c .before .before .before .before .before .before .before .before .pre) (c .before .before .id-at .ensures) (ap (λ (b : Bool). b && isMarked (now (a .free)) v) (le-ltb v (a .inputs) (omega (arith, c .if1 .taken))))
 
 is-marked-requires : tie.Need-is-marked-requires
 is-marked-requires c κs = first-inside (c .before .before .before .before .before .before .before .before .before .args .inputs) (c .before .before .before .before .before .before .before .before .before .pre) (c .before .before .before .id-at .ensures)
@@ -50,7 +51,7 @@ same-length-2 c = search needs
 returns-3 : tie.Need-returns-3
 returns-3 c =
     let a = c .before .before .before .before .before .before .before .before .before .before .before .before .before .before .before .before .before .before .before .args in let v = c .before .before .before .before .before .before .before .before .before .before .before .before .before .id-at .result .id in
-    path-told (a .inputs) (c .before .before .before .before .before .before .before .before .before .before .before .before .before .before .before .before .before .before .before .pre) (c .before .before .before .before .before .before .before .before .before .before .before .before .before .id-at .ensures) (ap (λ (b : Bool). b && isMarked (now (a .free)) v) (lt-ltb v (a .inputs) (c .before .before .before .before .before .before .before .before .before .before .before .if1 .left)) ∙ sym (c .before .before .before .before .before .before .before .before .before .is-marked .ensures) ∙ not-false _ (c .before .before .before .before .before .before .before .before .if2 .left)) (rw (c .before .before .before .before .before .before .take .ensures) at (c .before .before .goes-on .ensures))
+    path-told (a .inputs) (c .before .before .before .before .before .before .before .before .before .before .before .before .before .before .before .before .before .before .before .pre) (c .before .before .before .before .before .before .before .before .before .before .before .before .before .id-at .ensures) (ap (λ (b : Bool). b && isMarked (now (a .free)) v) (lt-ltb v (a .inputs) (omega (arith, c .before .before .before .before .before .before .before .before .before .before .before .if1 .left))) ∙ sym (c .before .before .before .before .before .before .before .before .before .is-marked .ensures) ∙ not-false _ (c .before .before .before .before .before .before .before .before .if2 .left)) (rw (c .before .before .before .before .before .before .take .ensures) at (c .before .before .goes-on .ensures))
 
 pub is-path-spec : {M : Type 1} → statement M
 is-path-spec =

@@ -3,7 +3,6 @@ use mathlib.Core.Path.{refl}
 use Prim.Native.Nat.{_*_}
 use denote.Ref.{now}
 use borrow.Author.Needs.{needs}
-use Rattle.theory.specs.Lists.{greatest}
 use Rattle.judging.proofs.Kept.{rest-whole, depth-asked, label-unshown, label-at-peak, label-above}
 use Rattle.judging.proofs.rules.keeps_label.Statement.{statement}
 use Rattle.judging.proofs.rules.keeps_label.Tie as tie

@@ -9,10 +9,6 @@ use native.Mathlib.Omega.{arith}
 use borrow.Author.Needs.{needs}
 use Rattle.shaping.proofs.fields.frame.Statement.{statement}
 use Rattle.shaping.proofs.fields.frame.Tie as tie
-use Rattle.shaping.proofs.fields.frame.Reads as reads
-use Rattle.shaping.proofs.fields.frame.Lts as lts
-use Rattle.drawing.proofs.bytes.byte_at.Reads as byte-at-reads
-use Rattle.drawing.proofs.bytes.length_at.Reads as length-at-reads
 
 sub-if1 : tie.Need-sub-if1
 sub-if1 c = search needs

@@ -6,9 +6,6 @@ use native.Mathlib.Omega.{arith}
 use borrow.Author.Needs.{needs}
 use Rattle.shaping.proofs.fields.head_in_range.Statement.{statement}
 use Rattle.shaping.proofs.fields.head_in_range.Tie as tie
-use Rattle.shaping.proofs.fields.head_in_range.Reads as reads
-use Rattle.shaping.proofs.fields.head_in_range.Lts as lts
-use Rattle.shaping.proofs.numbers.small_at.Reads as small-at-reads
 
 small-at-requires : tie.Need-small-at-requires
 small-at-requires c κs = search needs

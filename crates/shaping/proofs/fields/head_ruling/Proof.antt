@@ -1,19 +1,13 @@
 -- `head_ruling` meets its contract: the frame's ruling, and where that is sound the value's.
-use mathlib.Core.Path.{sym, _∙_}
 use denote.Ref.{now}
 use Rattle.sheet.specs.Shape.{headRuling}
 use Rattle.shaping.specs.Terms.{dueOf}
 use Rattle.shaping.specs.Fields.{headLengthWrong, headOutOfRange}
 use Rattle.shaping.proofs.Rulings.{frame-fits, frame-faulty, frame-sound}
 use mathlib.Core.Bool.{false}
-use native.Mathlib.Omega.{arith}
 use borrow.Author.Needs.{needs}
 use Rattle.shaping.proofs.fields.head_ruling.Statement.{statement}
 use Rattle.shaping.proofs.fields.head_ruling.Tie as tie
-use Rattle.shaping.proofs.fields.head_ruling.Reads as reads
-use Rattle.shaping.proofs.fields.head_ruling.Lts as lts
-use Rattle.shaping.proofs.fields.frame.Reads as frame-reads
-use Rattle.shaping.proofs.fields.head_value.Reads as head-value-reads
 
 frame-requires : tie.Need-frame-requires
 frame-requires c κs = search needs

@@ -10,10 +10,6 @@ use native.Mathlib.Omega.{arith}
 use borrow.Author.Needs.{needs}
 use Rattle.shaping.proofs.fields.head_value.Statement.{statement}
 use Rattle.shaping.proofs.fields.head_value.Tie as tie
-use Rattle.shaping.proofs.fields.head_value.Reads as reads
-use Rattle.shaping.proofs.fields.head_value.Lts as lts
-use Rattle.drawing.proofs.bytes.length_at.Reads as length-at-reads
-use Rattle.shaping.proofs.fields.head_in_range.Reads as head-in-range-reads
 
 length-at-requires : tie.Need-length-at-requires
 length-at-requires c κs = search needs

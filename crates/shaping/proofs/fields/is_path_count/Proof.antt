@@ -4,8 +4,6 @@ use native.Mathlib.Omega.{arith}
 use borrow.Author.Needs.{needs}
 use Rattle.shaping.proofs.fields.is_path_count.Statement.{statement}
 use Rattle.shaping.proofs.fields.is_path_count.Tie as tie
-use Rattle.shaping.proofs.fields.is_path_count.Reads as reads
-use Rattle.shaping.proofs.fields.is_path_count.Lts as lts
 
 returns : tie.Need-returns
 returns c = simp (eq-eqb (c .before .args .count) 0 (omega arith))

@@ -3,17 +3,11 @@ use denote.Ref.{now}
 use borrow.Author.Tests.{not-true, not-false}
 use Rattle.shaping.specs.Terms.{dueOf}
 use Rattle.shaping.proofs.Ids.{twice, narrow-one}
-use Rattle.shaping.proofs.Values.{LineParts, line-parts, q-inside, paths-end, line-low, line-high, line-leaves, line-count, line-told}
+use Rattle.shaping.proofs.Values.{line-parts, q-inside, paths-end, line-low, line-high, line-leaves, line-count, line-told}
 use native.Mathlib.Omega.{arith}
 use borrow.Author.Needs.{needs}
 use Rattle.shaping.proofs.fields.line_in_range.Statement.{statement}
 use Rattle.shaping.proofs.fields.line_in_range.Tie as tie
-use Rattle.shaping.proofs.fields.line_in_range.Reads as reads
-use Rattle.shaping.proofs.fields.line_in_range.Lts as lts
-use Rattle.shaping.proofs.fields.is_path_count.Reads as is-path-count-reads
-use Rattle.shaping.proofs.numbers.leaves_in_range.Reads as leaves-in-range-reads
-use Rattle.shaping.proofs.numbers.small_at.Reads as small-at-reads
-use Rattle.shaping.proofs.paths.paths_in_range.Reads as paths-in-range-reads
 
 add-small-at : tie.Need-add-small-at
 add-small-at c = search needs

@@ -1,18 +1,12 @@
 -- `line_ruling` meets its contract: the frame's ruling, and where that is sound the value's.
-use mathlib.Core.Path.{sym, _∙_}
 use denote.Ref.{now}
 use Rattle.sheet.specs.Shape.{lineRuling, lineLengthWrong, lineRange, lineAt}
 use Rattle.shaping.specs.Terms.{dueOf}
 use Rattle.shaping.proofs.Rulings.{frame-fits, frame-faulty, frame-sound}
 use mathlib.Core.Bool.{false}
 use native.Mathlib.Omega.{arith}
-use borrow.Author.Needs.{needs}
 use Rattle.shaping.proofs.fields.line_ruling.Statement.{statement}
 use Rattle.shaping.proofs.fields.line_ruling.Tie as tie
-use Rattle.shaping.proofs.fields.line_ruling.Reads as reads
-use Rattle.shaping.proofs.fields.line_ruling.Lts as lts
-use Rattle.shaping.proofs.fields.frame.Reads as frame-reads
-use Rattle.shaping.proofs.fields.line_value.Reads as line-value-reads
 
 frame-requires : tie.Need-frame-requires
 frame-requires c κs = omega arith

@@ -1,18 +1,11 @@
 -- `line_uses` meets its contract: label, leaves and paths, each within what is left of the value.
-use Prim.Native.Nat.{_+_, _*_}
 use denote.Ref.{now}
 use Rattle.shaping.specs.Terms.{dueOf}
 use Rattle.shaping.proofs.Ids.{twice, narrow-one}
 use Rattle.shaping.proofs.Values.{line-torn, line-short, line-used}
 use native.Mathlib.Omega.{arith}
-use borrow.Author.Needs.{needs}
 use Rattle.shaping.proofs.fields.line_uses.Statement.{statement}
 use Rattle.shaping.proofs.fields.line_uses.Tie as tie
-use Rattle.shaping.proofs.fields.line_uses.Reads as reads
-use Rattle.shaping.proofs.fields.line_uses.Lts as lts
-use Rattle.drawing.proofs.bytes.length_at.Reads as length-at-reads
-use Rattle.shaping.proofs.numbers.small_at.Reads as small-at-reads
-use Rattle.shaping.proofs.paths.paths_use.Reads as paths-use-reads
 
 length-at-requires : tie.Need-length-at-requires
 length-at-requires c κs = omega arith

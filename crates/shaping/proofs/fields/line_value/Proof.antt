@@ -5,14 +5,8 @@ use borrow.Author.Tests.{not-true, not-false}
 use Rattle.sheet.specs.Shape.{lineLengthWrong, lineRange, lineAt}
 use Rattle.shaping.specs.Terms.{dueOf}
 use Rattle.shaping.proofs.Rulings.{value-wrong, value-far, value-sound}
-use native.Mathlib.Omega.{arith}
-use borrow.Author.Needs.{needs}
 use Rattle.shaping.proofs.fields.line_value.Statement.{statement}
 use Rattle.shaping.proofs.fields.line_value.Tie as tie
-use Rattle.shaping.proofs.fields.line_value.Reads as reads
-use Rattle.shaping.proofs.fields.line_value.Lts as lts
-use Rattle.shaping.proofs.fields.line_in_range.Reads as line-in-range-reads
-use Rattle.shaping.proofs.fields.line_uses.Reads as line-uses-reads
 
 line-uses-requires : tie.Need-line-uses-requires
 line-uses-requires c κs = c .before .pre

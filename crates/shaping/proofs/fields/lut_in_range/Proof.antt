@@ -6,10 +6,6 @@ use native.Mathlib.Omega.{arith}
 use borrow.Author.Needs.{needs}
 use Rattle.shaping.proofs.fields.lut_in_range.Statement.{statement}
 use Rattle.shaping.proofs.fields.lut_in_range.Tie as tie
-use Rattle.shaping.proofs.fields.lut_in_range.Reads as reads
-use Rattle.shaping.proofs.fields.lut_in_range.Lts as lts
-use Rattle.shaping.proofs.numbers.leaves_in_range.Reads as leaves-in-range-reads
-use Rattle.shaping.proofs.numbers.small_at.Reads as small-at-reads
 
 add-small-at : tie.Need-add-small-at
 add-small-at c = search needs

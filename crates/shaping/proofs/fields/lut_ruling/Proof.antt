@@ -1,18 +1,12 @@
 -- `lut_ruling` meets its contract: the frame's ruling, and where that is sound the value's.
-use mathlib.Core.Path.{sym, _∙_}
 use denote.Ref.{now}
 use Rattle.sheet.specs.Shape.{lutRuling, lutLengthWrong, lutRange, lutAt}
 use Rattle.shaping.specs.Terms.{dueOf}
 use Rattle.shaping.proofs.Rulings.{frame-fits, frame-faulty, frame-sound}
 use mathlib.Core.Bool.{false}
-use native.Mathlib.Omega.{arith}
 use borrow.Author.Needs.{needs}
 use Rattle.shaping.proofs.fields.lut_ruling.Statement.{statement}
 use Rattle.shaping.proofs.fields.lut_ruling.Tie as tie
-use Rattle.shaping.proofs.fields.lut_ruling.Reads as reads
-use Rattle.shaping.proofs.fields.lut_ruling.Lts as lts
-use Rattle.shaping.proofs.fields.frame.Reads as frame-reads
-use Rattle.shaping.proofs.fields.lut_value.Reads as lut-value-reads
 
 frame-requires : tie.Need-frame-requires
 frame-requires c κs = search needs

@@ -7,10 +7,6 @@ use native.Mathlib.Omega.{arith}
 use borrow.Author.Needs.{needs}
 use Rattle.shaping.proofs.fields.lut_uses.Statement.{statement}
 use Rattle.shaping.proofs.fields.lut_uses.Tie as tie
-use Rattle.shaping.proofs.fields.lut_uses.Reads as reads
-use Rattle.shaping.proofs.fields.lut_uses.Lts as lts
-use Rattle.drawing.proofs.bytes.length_at.Reads as length-at-reads
-use Rattle.shaping.proofs.numbers.small_at.Reads as small-at-reads
 
 length-at-requires : tie.Need-length-at-requires
 length-at-requires c κs = search needs

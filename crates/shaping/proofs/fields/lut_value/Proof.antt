@@ -5,14 +5,9 @@ use borrow.Author.Tests.{not-true, not-false}
 use Rattle.sheet.specs.Shape.{lutLengthWrong, lutRange, lutAt}
 use Rattle.shaping.specs.Terms.{dueOf}
 use Rattle.shaping.proofs.Rulings.{value-wrong, value-far, value-sound}
-use native.Mathlib.Omega.{arith}
 use borrow.Author.Needs.{needs}
 use Rattle.shaping.proofs.fields.lut_value.Statement.{statement}
 use Rattle.shaping.proofs.fields.lut_value.Tie as tie
-use Rattle.shaping.proofs.fields.lut_value.Reads as reads
-use Rattle.shaping.proofs.fields.lut_value.Lts as lts
-use Rattle.shaping.proofs.fields.lut_in_range.Reads as lut-in-range-reads
-use Rattle.shaping.proofs.fields.lut_uses.Reads as lut-uses-reads
 
 lut-uses-requires : tie.Need-lut-uses-requires
 lut-uses-requires c κs = search needs

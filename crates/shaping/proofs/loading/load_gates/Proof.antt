@@ -1,20 +1,14 @@
 -- `load_gates` meets its contract: the gates passed have their entries.
-use Prim.Native.Nat.{_+_, _-_, _≤_}
-use mathlib.Core.Path.{_≡_, sym, _∙_}
+use Prim.Native.Nat.{_+_, _-_}
 use denote.Ref.{now}
 use Rattle.shaping.specs.Terms.{dueOf}
 use Rattle.shaping.specs.Loading.{lineArrays}
-use Rattle.shaping.proofs.Filling.{lines-begin, lines-room}
+use Rattle.shaping.proofs.Filling.{lines-room}
 use Rattle.shaping.proofs.FieldRuns.{head-end}
 use Rattle.shaping.proofs.Found.{whole, GatesLoading, gates-begin, gates-done, gate-end, gate-ready, gate-more}
 use native.Mathlib.Omega.{arith}
-use borrow.Author.Needs.{needs}
 use Rattle.shaping.proofs.loading.load_gates.Statement.{statement}
 use Rattle.shaping.proofs.loading.load_gates.Tie as tie
-use Rattle.shaping.proofs.loading.load_gates.Reads as reads
-use Rattle.shaping.proofs.loading.load_gates.Lts as lts
-use Rattle.shaping.proofs.reader.passed.Reads as passed-reads
-use Rattle.shaping.proofs.storing.put_line.Reads as put-line-reads
 
 abbrev Inv-loop : tie.InvT-loop
 Inv-loop terms sheet labels₀ leaves₀ sizes₀ places₀ at₀ v₀ labels leaves sizes places at v = GatesLoading (dueOf terms) sheet (lineArrays labels₀ leaves₀ sizes₀ places₀) (lineArrays labels leaves sizes places) v at

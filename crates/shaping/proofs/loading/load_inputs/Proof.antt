@@ -6,14 +6,9 @@ use Rattle.shaping.specs.Terms.{dueOf}
 use Rattle.shaping.specs.Loading.{lineArrays, LinesFilled}
 use Rattle.shaping.proofs.Filling.{lines-begin, lines-put, lines-room, line-room, lines-to}
 use Rattle.shaping.proofs.Found.{input-line, input-place}
-use mathlib.Core.Path.{_≡_}
 use native.Mathlib.Omega.{arith}
-use borrow.Author.Needs.{needs}
 use Rattle.shaping.proofs.loading.load_inputs.Statement.{statement}
 use Rattle.shaping.proofs.loading.load_inputs.Tie as tie
-use Rattle.shaping.proofs.loading.load_inputs.Reads as reads
-use Rattle.shaping.proofs.loading.load_inputs.Lts as lts
-use Rattle.shaping.proofs.storing.put_no_line.Reads as put-no-line-reads
 
 abbrev Inv-loop : tie.InvT-loop
 Inv-loop terms sheet labels₀ leaves₀ sizes₀ places₀ v₀ labels leaves sizes places v = (v ≤ terms .inputs) × LinesFilled (terms .inputs) sheet (reading (dueOf terms) sheet .sheet .lines) (lineArrays labels₀ leaves₀ sizes₀ places₀) 0 v (lineArrays labels leaves sizes places)

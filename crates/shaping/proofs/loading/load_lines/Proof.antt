@@ -2,13 +2,8 @@
 use mathlib.Core.Path.{_∙_}
 use Rattle.shaping.proofs.Filling.{lines-join, lines-room}
 use native.Mathlib.Omega.{arith}
-use borrow.Author.Needs.{needs}
 use Rattle.shaping.proofs.loading.load_lines.Statement.{statement}
 use Rattle.shaping.proofs.loading.load_lines.Tie as tie
-use Rattle.shaping.proofs.loading.load_lines.Reads as reads
-use Rattle.shaping.proofs.loading.load_lines.Lts as lts
-use Rattle.shaping.proofs.loading.load_gates.Reads as load-gates-reads
-use Rattle.shaping.proofs.loading.load_inputs.Reads as load-inputs-reads
 
 load-inputs-requires : tie.Need-load-inputs-requires
 load-inputs-requires c κs = c .before .before .before .before .before .before .before .before .before .pre

@@ -1,6 +1,5 @@
 -- `load_luts` meets its contract: the nodes passed have their entries, and the LUTs left are those of the others.
 use Prim.Native.Nat.{_+_, _-_}
-use mathlib.Core.Path.{_≡_}
 use denote.Ref.{now}
 use Rattle.shaping.specs.Terms.{dueOf}
 use Rattle.shaping.specs.Loading.{lutArrays}
@@ -8,13 +7,8 @@ use Rattle.shaping.proofs.Filling.{luts-begin, luts-put, luts-room, lut
 use Rattle.shaping.proofs.FieldRuns.{head-inside}
 use Rattle.shaping.proofs.Found.{whole, LutsLoading, left-first}
 use native.Mathlib.Omega.{arith}
-use borrow.Author.Needs.{needs}
 use Rattle.shaping.proofs.loading.load_luts.Statement.{statement}
 use Rattle.shaping.proofs.loading.load_luts.Tie as tie
-use Rattle.shaping.proofs.loading.load_luts.Reads as reads
-use Rattle.shaping.proofs.loading.load_luts.Lts as lts
-use Rattle.shaping.proofs.loading.lut_turn.Reads as lut-turn-reads
-use Rattle.shaping.proofs.numbers.small_at.Reads as small-at-reads
 
 abbrev Inv-loop : tie.InvT-loop
 Inv-loop terms sheet start roots₀ leaves₀ sizes₀ tables₀ width at₀ left₀ v₀ roots leaves sizes tables at left v = LutsLoading (dueOf terms) sheet (lutArrays roots₀ leaves₀ sizes₀ tables₀) (lutArrays roots leaves sizes tables) v left at

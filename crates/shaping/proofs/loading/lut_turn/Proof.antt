@@ -1,6 +1,4 @@
 -- `lut_turn` meets its contract: the node is the next root, or no root.
-use Prim.Native.Nat.{_+_}
-use mathlib.Core.Path.{_≡_}
 use denote.Ref.{now}
 use Rattle.shaping.specs.Terms.{dueOf}
 use Rattle.shaping.proofs.Filling.{put-as}
@@ -10,12 +8,6 @@ use native.Mathlib.Omega.{arith}
 use borrow.Author.Needs.{needs}
 use Rattle.shaping.proofs.loading.lut_turn.Statement.{statement}
 use Rattle.shaping.proofs.loading.lut_turn.Tie as tie
-use Rattle.shaping.proofs.loading.lut_turn.Reads as reads
-use Rattle.shaping.proofs.loading.lut_turn.Lts as lts
-use Rattle.shaping.proofs.reader.passed.Reads as passed-reads
-use Rattle.shaping.proofs.loading.next_root.Reads as next-root-reads
-use Rattle.shaping.proofs.storing.put_lut.Reads as put-lut-reads
-use Rattle.shaping.proofs.storing.put_no_lut.Reads as put-no-lut-reads
 
 next-root-requires : tie.Need-next-root-requires
 next-root-requires c κs = record { narrow = c .before .before .before .before .before .pre .0 .narrow; inside = next-inside (dueOf (c .before .before .before .before .before .args .terms)) (now (c .before .before .before .before .before .args .sheet)) (c .before .before .before .before .before .pre .0 .left) }

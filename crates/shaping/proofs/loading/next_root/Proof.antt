@@ -1,13 +1,8 @@
 -- `next_root` meets its contract.
-use mathlib.Core.Path.{sym, _∙_}
 use borrow.Author.Tests.{eq-eqb, ne-eqb}
 use native.Mathlib.Omega.{arith}
-use borrow.Author.Needs.{needs}
 use Rattle.shaping.proofs.loading.next_root.Statement.{statement}
 use Rattle.shaping.proofs.loading.next_root.Tie as tie
-use Rattle.shaping.proofs.loading.next_root.Reads as reads
-use Rattle.shaping.proofs.loading.next_root.Lts as lts
-use Rattle.shaping.proofs.numbers.small_at.Reads as small-at-reads
 
 returns : tie.Need-returns
 returns c = simp (eq-eqb (c .before .before .before .args .turn .left) 0 (omega arith))

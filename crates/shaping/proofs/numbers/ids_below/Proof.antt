@@ -8,12 +8,8 @@ use Rattle.drawing.specs.Bytes.{someFrom}
 use Rattle.sheet.specs.Shape.{idsAt}
 use Rattle.shaping.proofs.Ids.{one-less, below-none, below-stop, below-next}
 use native.Mathlib.Omega.{arith}
-use borrow.Author.Needs.{needs}
 use Rattle.shaping.proofs.numbers.ids_below.Statement.{statement}
 use Rattle.shaping.proofs.numbers.ids_below.Tie as tie
-use Rattle.shaping.proofs.numbers.ids_below.Reads as reads
-use Rattle.shaping.proofs.numbers.ids_below.Lts as lts
-use Rattle.shaping.proofs.numbers.small_at.Reads as small-at-reads
 
 abbrev Inv-loop : tie.InvT-loop
 Inv-loop sheet at width count nodes next₀ left₀ next left = (next + left * width ≤ length sheet) × (someFrom nodes (idsAt sheet at width count) ≡ someFrom nodes (idsAt sheet next width left))

@@ -7,12 +7,8 @@ use denote.Ref.{now}
 use Rattle.sheet.specs.Shape.{idsAt, rising}
 use Rattle.shaping.proofs.Ids.{one-less, rise-first, rise-none, rise-stop, rise-next}
 use native.Mathlib.Omega.{arith}
-use borrow.Author.Needs.{needs}
 use Rattle.shaping.proofs.numbers.ids_rise.Statement.{statement}
 use Rattle.shaping.proofs.numbers.ids_rise.Tie as tie
-use Rattle.shaping.proofs.numbers.ids_rise.Reads as reads
-use Rattle.shaping.proofs.numbers.ids_rise.Lts as lts
-use Rattle.shaping.proofs.numbers.small_at.Reads as small-at-reads
 
 abbrev Inv-loop : tie.InvT-loop
 Inv-loop sheet at width count before₀ next₀ left₀ before next left = (next + left * width ≤ length sheet) × (rising (idsAt sheet at width count) ≡ rising (before ∷ idsAt sheet next width left))

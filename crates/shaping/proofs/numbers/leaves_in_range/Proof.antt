@@ -9,11 +9,6 @@ use native.Mathlib.Omega.{arith}
 use borrow.Author.Needs.{needs}
 use Rattle.shaping.proofs.numbers.leaves_in_range.Statement.{statement}
 use Rattle.shaping.proofs.numbers.leaves_in_range.Tie as tie
-use Rattle.shaping.proofs.numbers.leaves_in_range.Reads as reads
-use Rattle.shaping.proofs.numbers.leaves_in_range.Lts as lts
-use Rattle.shaping.proofs.numbers.ids_below.Reads as ids-below-reads
-use Rattle.shaping.proofs.numbers.ids_rise.Reads as ids-rise-reads
-use Rattle.shaping.proofs.numbers.small_at.Reads as small-at-reads
 
 small-at-requires : tie.Need-small-at-requires
 small-at-requires c κs = search needs

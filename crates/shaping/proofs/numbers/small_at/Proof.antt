@@ -5,9 +5,6 @@ use native.Mathlib.Omega.{arith}
 use borrow.Author.Needs.{needs}
 use Rattle.shaping.proofs.numbers.small_at.Statement.{statement}
 use Rattle.shaping.proofs.numbers.small_at.Tie as tie
-use Rattle.shaping.proofs.numbers.small_at.Reads as reads
-use Rattle.shaping.proofs.numbers.small_at.Lts as lts
-use Rattle.drawing.proofs.bytes.byte_at.Reads as byte-at-reads
 
 byte-at-requires : tie.Need-byte-at-requires
 byte-at-requires c κs = search needs

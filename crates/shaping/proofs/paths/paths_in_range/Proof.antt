@@ -9,13 +9,8 @@ use Rattle.shaping.specs.Numbers.{pathsEnd}
 use Rattle.shaping.proofs.Ids.{twice}
 use Rattle.shaping.proofs.PathLists.{outOfRange, ends-after, ends-next, ends-inside, range-none, range-empty, range-far, range-next}
 use native.Mathlib.Omega.{arith}
-use borrow.Author.Needs.{needs}
 use Rattle.shaping.proofs.paths.paths_in_range.Statement.{statement}
 use Rattle.shaping.proofs.paths.paths_in_range.Tie as tie
-use Rattle.shaping.proofs.paths.paths_in_range.Reads as reads
-use Rattle.shaping.proofs.paths.paths_in_range.Lts as lts
-use Rattle.shaping.proofs.numbers.ids_below.Reads as ids-below-reads
-use Rattle.shaping.proofs.numbers.small_at.Reads as small-at-reads
 
 abbrev Inv-loop : tie.InvT-loop
 Inv-loop sheet at width count nodes next₀ left₀ next left = (pathsEnd sheet next width left ≤ length sheet) × (outOfRange sheet width nodes at count ≡ outOfRange sheet width nodes next left)

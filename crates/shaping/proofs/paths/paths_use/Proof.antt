@@ -1,18 +1,13 @@
 -- `paths_use` meets its contract: the paths use the value up if those from here on use up what is left.
-use Prim.Native.Nat.{_+_, _*_, _≤_}
+use Prim.Native.Nat.{_≤_}
 use mathlib.Core.Path.{_≡_, refl, sym, _∙_}
-use lib.ListN.{length}
 use denote.Ref.{now}
 use Rattle.sheet.specs.Shape.{pathsUse}
 use Rattle.shaping.proofs.Ids.{twice}
 use Rattle.shaping.proofs.PathLists.{use-none, use-torn, use-past, use-next}
 use native.Mathlib.Omega.{arith}
-use borrow.Author.Needs.{needs}
 use Rattle.shaping.proofs.paths.paths_use.Statement.{statement}
 use Rattle.shaping.proofs.paths.paths_use.Tie as tie
-use Rattle.shaping.proofs.paths.paths_use.Reads as reads
-use Rattle.shaping.proofs.paths.paths_use.Lts as lts
-use Rattle.shaping.proofs.numbers.small_at.Reads as small-at-reads
 
 abbrev Inv-loop : tie.InvT-loop
 Inv-loop sheet at width count end next₀ left₀ next left = (next ≤ end) × (pathsUse sheet at width count end ≡ pathsUse sheet next width left end)

@@ -10,10 +10,6 @@ use native.Mathlib.Omega.{arith}
 use borrow.Author.Needs.{needs}
 use Rattle.shaping.proofs.runs.judge_lines.Statement.{statement}
 use Rattle.shaping.proofs.runs.judge_lines.Tie as tie
-use Rattle.shaping.proofs.runs.judge_lines.Reads as reads
-use Rattle.shaping.proofs.runs.judge_lines.Lts as lts
-use Rattle.shaping.proofs.reader.passed.Reads as passed-reads
-use Rattle.shaping.proofs.fields.line_ruling.Reads as line-ruling-reads
 
 abbrev Inv-loop : tie.InvT-loop
 Inv-loop terms sheet start at₀ left₀ at left = (at ≤ length sheet) × (outcome (linesFrom (dueOf terms) sheet (terms .nodes - terms .inputs) start) ≡ outcome (linesFrom (dueOf terms) sheet left at))

@@ -1,5 +1,5 @@
 -- `judge_luts` meets its contract: the LUTs from here on end as all of them do.
-use Prim.Native.Nat.{_-_, _≤_}
+use Prim.Native.Nat.{_≤_}
 use mathlib.Core.Path.{_≡_, refl, sym, _∙_}
 use lib.ListN.{length}
 use denote.Ref.{now}
@@ -10,11 +10,6 @@ use native.Mathlib.Omega.{arith}
 use borrow.Author.Needs.{needs}
 use Rattle.shaping.proofs.runs.judge_luts.Statement.{statement}
 use Rattle.shaping.proofs.runs.judge_luts.Tie as tie
-use Rattle.shaping.proofs.runs.judge_luts.Reads as reads
-use Rattle.shaping.proofs.runs.judge_luts.Lts as lts
-use Rattle.shaping.proofs.reader.passed.Reads as passed-reads
-use Rattle.shaping.proofs.fields.lut_ruling.Reads as lut-ruling-reads
-use Rattle.shaping.proofs.numbers.small_at.Reads as small-at-reads
 
 abbrev Inv-loop : tie.InvT-loop
 Inv-loop terms sheet start count width at₀ least₀ left₀ at least left = (at ≤ length sheet) × (outcome (lutsFrom (dueOf terms) sheet count (terms .inputs) start) ≡ outcome (lutsFrom (dueOf terms) sheet left least at))

@@ -6,9 +6,6 @@ use native.Mathlib.Omega.{arith}
 use borrow.Author.Needs.{needs}
 use Rattle.shaping.proofs.storing.leaf_or_none.Statement.{statement}
 use Rattle.shaping.proofs.storing.leaf_or_none.Tie as tie
-use Rattle.shaping.proofs.storing.leaf_or_none.Reads as reads
-use Rattle.shaping.proofs.storing.leaf_or_none.Lts as lts
-use Rattle.shaping.proofs.numbers.small_at.Reads as small-at-reads
 
 returns : tie.Need-returns
 returns c = sym (id-past (now (c .before .before .args .sheet)) (c .before .before .args .at) (c .before .before .args .width) (c .before .before .args .count) (c .before .before .args .i) (omega arith))

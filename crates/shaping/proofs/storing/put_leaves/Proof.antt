@@ -1,18 +1,14 @@
 -- `put_leaves` meets its contract: the places passed are filled.
 use Prim.Native.Nat.{ℕ, _+_, _*_, _-_, _≤_}
-use mathlib.Core.Path.{_≡_, ap, sym, _∙_}
-use lib.ListN.{length, getD}
+use mathlib.Core.Path.{_≡_, ap, _∙_}
+use lib.ListN.{getD}
 use denote.Ref.{now}
 use Rattle.sheet.specs.Shape.{idsAt}
 use Rattle.shaping.specs.Loading.{Filled}
 use Rattle.shaping.proofs.Filling.{filled-none, filled-to, filled-set}
 use native.Mathlib.Omega.{arith}
-use borrow.Author.Needs.{needs}
 use Rattle.shaping.proofs.storing.put_leaves.Statement.{statement}
 use Rattle.shaping.proofs.storing.put_leaves.Tie as tie
-use Rattle.shaping.proofs.storing.put_leaves.Reads as reads
-use Rattle.shaping.proofs.storing.put_leaves.Lts as lts
-use Rattle.shaping.proofs.storing.leaf_or_none.Reads as leaf-or-none-reads
 
 abbrev Inv-loop : tie.InvT-loop
 Inv-loop sheet at width count leaves₀ base i₀ leaves i = (i ≤ 6) × Filled leaves₀ base (base + i) (λ j. getD (idsAt sheet at width count) (j - base) 0) leaves

@@ -8,10 +8,6 @@ use native.Mathlib.Omega.{arith}
 use borrow.Author.Needs.{needs}
 use Rattle.shaping.proofs.storing.put_line.Statement.{statement}
 use Rattle.shaping.proofs.storing.put_line.Tie as tie
-use Rattle.shaping.proofs.storing.put_line.Reads as reads
-use Rattle.shaping.proofs.storing.put_line.Lts as lts
-use Rattle.shaping.proofs.numbers.small_at.Reads as small-at-reads
-use Rattle.shaping.proofs.storing.put_leaves.Reads as put-leaves-reads
 
 cast-v : tie.Need-cast-v
 cast-v c = search needs

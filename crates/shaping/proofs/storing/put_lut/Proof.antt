@@ -9,11 +9,6 @@ use native.Mathlib.Omega.{arith}
 use borrow.Author.Needs.{needs}
 use Rattle.shaping.proofs.storing.put_lut.Statement.{statement}
 use Rattle.shaping.proofs.storing.put_lut.Tie as tie
-use Rattle.shaping.proofs.storing.put_lut.Reads as reads
-use Rattle.shaping.proofs.storing.put_lut.Lts as lts
-use Rattle.drawing.proofs.bytes.number_at.Reads as number-at-reads
-use Rattle.shaping.proofs.numbers.small_at.Reads as small-at-reads
-use Rattle.shaping.proofs.storing.put_leaves.Reads as put-leaves-reads
 
 cast-v : tie.Need-cast-v
 cast-v c = search needs

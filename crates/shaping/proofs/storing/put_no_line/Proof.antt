@@ -1,13 +1,9 @@
 -- `put_no_line` meets its contract.
 use denote.Ref.{now}
 use Rattle.shaping.proofs.Filling.{no-line-put}
-use native.Mathlib.Omega.{arith}
 use borrow.Author.Needs.{needs}
 use Rattle.shaping.proofs.storing.put_no_line.Statement.{statement}
 use Rattle.shaping.proofs.storing.put_no_line.Tie as tie
-use Rattle.shaping.proofs.storing.put_no_line.Reads as reads
-use Rattle.shaping.proofs.storing.put_no_line.Lts as lts
-use Rattle.shaping.proofs.storing.put_leaves.Reads as put-leaves-reads
 
 cast-v : tie.Need-cast-v
 cast-v c = search needs

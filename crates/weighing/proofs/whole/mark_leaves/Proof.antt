@@ -1,4 +1,5 @@
 -- `mark_leaves` meets its contract.
+use native.Mathlib.Omega.{arith}
 use mathlib.Core.Path.{refl}
 use borrow.Author.Needs.{needs}
 use Rattle.weighing.proofs.whole.mark_leaves.Statement.{statement}
@@ -11,7 +12,7 @@ shared-slice-read-if1 : tie.Need-shared-slice-read-if1
 shared-slice-read-if1 c = search needs
 
 returns : tie.Need-returns
-returns c = record { root = λ one. absurd (c .if1 .taken one); other = λ _. refl }
+returns c = record { root = λ one. absurd (omega (arith, one, c .if1 .taken)); other = λ _. refl }
 
 mul-mark-gates : tie.Need-mul-mark-gates
 mul-mark-gates c = search needs
@@ -29,7 +30,7 @@ same-length : tie.Need-same-length
 same-length c = search needs
 
 returns-2 : tie.Need-returns-2
-returns-2 c = record { root = λ _. c .before .before .mark-gates .ensures; other = λ out. absurd (out (c .before .before .before .before .before .if1 .left)) }
+returns-2 c = record { root = λ _. c .before .before .mark-gates .ensures; other = λ out. absurd (out (omega (arith, c .before .before .before .before .before .if1 .left))) }
 
 pub mark-leaves-spec : {M : Type 1} → statement M
 mark-leaves-spec =
