@@ -23,7 +23,7 @@ use Rattle.flow.specs.Numbers.{sum, those}
 use Rattle.flow.specs.Flow.{isLeaf, Carries, Found, Settled}
 use Rattle.area.specs.Area.{InArea, IsEnd}
 use Rattle.flow.specs.Area.{Marked}
-use Rattle.flow.specs.Paths.{follow, pathsIn}
+use Rattle.flow.specs.Paths.{follow, pathsIn, Links, LinksIn}
 use Rattle.flow.specs.Turns.{at, Ground, Searched}
 use Rattle.flow.specs.Sweeps.{Field, AllSettled}
 use Rattle.flow.specs.Augments.{FlowIn}
@@ -153,6 +153,21 @@ module _ {inputs nodes k : ℕ} {fan count : List ℕ} (drawn : Drawn inputs nod
         flow-evidence by-order parts-marked (flow .carries) (order-low (drawn .bounded) (no-feeds inputs nodes fan count) ordered) refl span
         (λ some. let size = ordered .size in omega arith)
 
+    -- and their links are those of paths
+    flow-links : {next prev : List ℕ} {number : ℕ} → FlowIn inputs nodes fan count (take nodes area) (take nodes ends) next prev number →
+        Links (netIn inputs nodes fan count) (at next) (at prev)
+    flow-links flow =
+        let linked = flow .carries .linked in
+        record {
+          below = λ v used. parts-marked .below v (linked .inside v used);
+          idle = linked .idle;
+          fresh = linked .fresh;
+          ahead = linked .ahead;
+          back = linked .back;
+          edge = linked .edge;
+          starts = flow .carries .starts;
+        }
+
 -- The answer
 
 module _ {inputs nodes k : ℕ} {fan count order area ends next prev ins outs parent leaves : List ℕ}
@@ -203,6 +218,9 @@ module _ {inputs nodes k : ℕ} {fan count order area ends next prev ins outs pa
       (λ (a b : List ℕ). Evidence (netIn inputs nodes fan count) k lab t (map (follow (at a) nodes) (those (λ v. eqb (at b v) 1) inputs)))
       (sym (take-at next′ (drop nodes next) nodes (flow .next-long))) (sym (take-at prev′ (drop nodes prev) nodes (flow .prev-long)))
       (many-evidence (asked .drawn) of (asked .area-long) (asked .ends-long) (asked .ordered) flow gates-span))
+      (subst₂ (λ (a b : List ℕ). Links (netIn inputs nodes fan count) (at a) (at b))
+      (sym (take-at next′ (drop nodes next) nodes (flow .next-long))) (sym (take-at prev′ (drop nodes prev) nodes (flow .prev-long)))
+      (flow-links (asked .drawn) (asked .marks) (asked .area-long) (asked .ends-long) (asked .ordered) flow))
       (drop-at next′ (drop nodes next) nodes (flow .next-long)) (drop-at prev′ (drop nodes prev) nodes (flow .prev-long))
       (clear-whole ins i) (clear-whole outs o) (clear-whole parent p) same
   answer (FlowWithin.cut size last next* prev* ins* outs* parent* e few flow searched settled n q i o p same) =

@@ -1,18 +1,18 @@
 -- Augmenting: one step back from a loose node keeps a flow with one path more whose one start is loose, and the number of its in-state falls. Only
 -- links that were read are stored to: what is found earlier is as it was when the search ran.
-use Prim.Native.Nat.{ℕ, zero, suc, _+_, _-_, _≤_, _<_}
-use native.Mathlib.Decide.{ℕ-discrete, decLt}
+use Prim.Native.Nat.{ℕ, suc, _-_, _≤_, _<_}
+use native.Mathlib.Decide.{ℕ-discrete}
 use native.Mathlib.Omega.{arith}
 use mathlib.Core.Path.{_≡_, refl, sym, ap, subst, _∙_}
 use mathlib.Core.Logic.{_⊎_, inl, inr, ⊎-elim}
 use mathlib.Core.List.{List, List·Memᴰ}
-use lib.ListN.{length, List·getD-eq-default}
+use lib.ListN.{length}
 use Rattle.theory.specs.Net.{Net}
 use Rattle.drawing.specs.Table.{netIn}
-use Rattle.flow.specs.Numbers.{sum, Upd}
-use Rattle.flow.specs.Flow.{one, Linked, Carries, Open, WayIn, WayOut, Found, Freed}
+use Rattle.flow.specs.Numbers.{Upd}
+use Rattle.flow.specs.Flow.{Linked, Carries, Open, WayIn, WayOut, Freed}
 use Rattle.flow.specs.Turns.{at, Ground, Searched}
-use Rattle.flow.specs.Sweeps.{Field, SearchAsked, EndFound}
+use Rattle.flow.specs.Sweeps.{SearchAsked, EndFound}
 use Rattle.flow.specs.Augments.{FreeAsked, StepAsked, Stepped, FlowIn, startsOf, RoundAsked}
 use Rattle.flow.proofs.Links.{used-come, free-linked, free-starts, link-linked, link-starts, drop-linked, drop-starts}
 use Rattle.flow.proofs.Orders.{held-input}

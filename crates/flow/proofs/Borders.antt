@@ -1,21 +1,18 @@
 -- The area and D: fanins of the area lie in the area, fanins of D lie in D or are ends. So the walk from t with leaves in the area is D and a part
 -- of the area, and for a flow a cut outside D is a division.
-use Prim.Native.Nat.{ℕ, zero, suc, _+_, _≤_, _<_}
+use Prim.Native.Nat.{ℕ}
 use native.Mathlib.Decide.{ℕ-discrete}
 use native.Mathlib.Omega.{arith}
-use mathlib.Core.Path.{_≡_, refl, sym, ap, subst, _∙_}
-use mathlib.Core.Bool.{Bool, true, false, cond}
+use mathlib.Core.Path.{_≡_}
 use mathlib.Core.Logic.{_⊎_, inl, inr, ⊎-elim}
 use mathlib.Core.List.{List, [], List·Memᴰ}
-use lib.ListN.{length}
 use Rattle.theory.specs.Net.{Net, Gate, Input}
 use Rattle.theory.specs.Sound.{Bounded, Ranked}
 use Rattle.theory.specs.Walk.{Walked, Met, Behind}
 use Rattle.theory.specs.Evidence.{peak, InD, Outside, NeverFalls}
-use Rattle.theory.proofs.Walks.{Stops, behind-on, behind-walked, walk-behind, met-behind, leaf-or-walked, no-loop, gate-no-input, decide-gate, reader-is-gate, met-node, cone-of-walked}
+use Rattle.theory.proofs.Walks.{Stops, behind-walked, leaf-or-walked, no-loop, gate-no-input, decide-gate, reader-is-gate, met-node, cone-of-walked}
 use Rattle.theory.proofs.Duality.{behind-low, d-is-walked}
 use Rattle.area.specs.Area.{InArea, IsEnd}
-use Rattle.flow.specs.Area.{Marked}
 
 module _ {net : Net} {k : ℕ} {lab : ℕ → ℕ} {t : ℕ} (bounded : Bounded net k) (ranked : Ranked net) (gate : Gate net t) (never-falls : NeverFalls net lab t) where
   deep-behind : {v : ℕ} → InD net lab t v → Behind net t v → Gate net v × (lab v ≡ peak net lab t)
@@ -64,11 +61,6 @@ module _ {net : Net} {k : ℕ} {lab : ℕ → ℕ} {t : ℕ} (bounded : Bounded 
 
     pub end-side : {v : ℕ} → IsEnd net lab t v → List·Memᴰ v leaves ⊎ Walked net leaves t v
     end-side e = let m = end-met e in leaf-or-walked (m .walked) (m .feeds)
-
-    -- what is walked lies in D or in the area
-    pub walked-side : {v : ℕ} → Walked net leaves t v → InD net lab t v ⊎ InArea net lab t v
-    walked-side Walked.start = inl InD.self
-    walked-side (Walked.step {v = v} {u = u} w m out) = deep-or-area u (met-behind (record { reader = v; walked = w; feeds = m }))
 
     pub walked-no-input : {v : ℕ} → Stops net k t leaves → Walked net leaves t v → Input net v → ⊥
     walked-no-input s w i = gate-no-input (cone-of-walked (bounded .nodes) (s .stops) gate w .gate) i

@@ -2,11 +2,9 @@
 -- inequality holds; summed, they say that there are no more paths than leaves (weak duality). Where they are equations, there are as many
 -- (strong duality), and where there are as many, they are equations (tight): no path comes back from the far side, and each leaf is used.
 use Prim.Native.Nat.{ℕ, zero, suc, _+_, _≤_, _<_}
-use native.Mathlib.Decide.{ℕ-discrete}
 use native.Mathlib.Omega.{arith}
-use mathlib.Core.Path.{_≡_, refl, sym, ap, subst, _∙_}
-use mathlib.Core.Bool.{Bool, true, false, cond}
-use mathlib.Core.Logic.{_⊎_, inl, inr, ⊎-elim}
+use mathlib.Core.Path.{_≡_, refl, sym, ap, _∙_}
+use mathlib.Core.Bool.{Bool, cond}
 use mathlib.Core.List.{List·Memᴰ}
 use lib.Dec.{eqb}
 use borrow.Author.Tests.{eq-eqb, ne-eqb}

@@ -4,10 +4,10 @@ use Prim.Native.Nat.{ℕ, zero, suc, _+_, _*_, _≤_, _<_}
 use native.Mathlib.Decide.{ℕ-discrete, decLt}
 use native.Mathlib.Omega.{arith}
 use mathlib.Core.Path.{_≡_, refl, sym, ap, subst, subst₂, _∙_}
-use mathlib.Core.Bool.{Bool, true, false}
-use mathlib.Core.Logic.{_⊎_, inl, inr, ⊎-elim}
-use mathlib.Core.List.{List, List·Memᴰ}
-use lib.ListN.{length, getD, set, length-set, List·getD-eq-default}
+use mathlib.Core.Bool.{Bool, true}
+use mathlib.Core.Logic.{_⊎_, ⊎-elim}
+use mathlib.Core.List.{List}
+use lib.ListN.{length, getD, length-set, List·getD-eq-default}
 use Rattle.theory.specs.Net.{Net}
 use Rattle.drawing.specs.Table.{netIn}
 use Rattle.flow.specs.Numbers.{sum, Upd}
@@ -16,10 +16,6 @@ use Rattle.flow.specs.Turns.{at, Ground, Fed, VisitInAsked, VisitOutAske
 use Rattle.flow.proofs.Stores.{set-upd}
 use Rattle.flow.proofs.Sums.{sum-zero, sum-more}
 use Rattle.flow.proofs.Orders.{fanin-there, fanin-place, fanin-low, inputs-held, nodes-room}
-
-sign-one : (c : ℕ) → 1 ≤ c → sign c ≡ 1
-sign-one zero p = absurd (omega arith)
-sign-one (suc c) p = refl
 
 sign-most : (c : ℕ) → sign c ≤ 1
 sign-most zero = omega arith

@@ -3,14 +3,14 @@
 use Prim.Native.Nat.{ℕ, zero, suc, _+_, _≤_, _<_}
 use native.Mathlib.Decide.{ℕ-discrete}
 use native.Mathlib.Omega.{arith}
-use mathlib.Core.Path.{_≡_, refl, sym, ap, subst, _∙_}
+use mathlib.Core.Path.{_≡_, refl, _∙_}
 use mathlib.Core.Bool.{Bool, true, false, cond}
 use mathlib.Core.Logic.{_⊎_, inl, inr, ⊎-elim}
-use mathlib.Core.List.{List, [], List·Memᴰ}
+use mathlib.Core.List.{List, List·Memᴰ}
 use lib.ListN.{length}
 use Rattle.theory.specs.Net.{Net, Gate, Input}
 use Rattle.theory.specs.Sound.{Bounded, Ranked}
-use Rattle.theory.specs.Walk.{Walked, Met, Cut, Cone}
+use Rattle.theory.specs.Walk.{Walked, Met, Cut}
 use Rattle.theory.specs.Evidence.{InD, Outside, LeastCut, NeverFalls}
 use Rattle.theory.proofs.Decisions.{decide-member}
 use Rattle.theory.proofs.Members.{member-counts}
@@ -19,13 +19,13 @@ use Rattle.theory.proofs.Walks.{Stops, cut-stops, leaf-or-walked, decide-walked
 use Rattle.theory.proofs.Cuts.{leaf-met}
 use Rattle.flow.specs.Numbers.{sum, those}
 use Rattle.flow.specs.Flow.{isLeaf, Linked, Carries, Found, Settled}
-use Rattle.area.specs.Area.{InArea, IsEnd}
+use Rattle.area.specs.Area.{IsEnd}
 use Rattle.flow.specs.Area.{Marked}
 use Rattle.flow.proofs.Sums.{those-length, those-hold, those-all, those-rising, those-in}
 use Rattle.flow.proofs.Links.{used-come}
 use Rattle.flow.proofs.Counting.{Divides, no-more-paths}
-use Rattle.flow.proofs.Reached.{leaves-are-paths, stays-far, found-in-near}
-use Rattle.flow.proofs.Borders.{area-closed, deep-fanin, no-input-deep, end-met, end-side, walked-side, walked-no-input}
+use Rattle.flow.proofs.Reached.{leaves-are-paths, stays-far, found-in-near, out-none}
+use Rattle.flow.proofs.Borders.{area-closed, deep-fanin, no-input-deep, end-met, end-side, walked-no-input}
 
 abbrev is : {A : Type 0} → Dec A → Bool
 is (yes _) = true
@@ -138,13 +138,6 @@ module _ {net : Net} {k : ℕ} {lab : ℕ → ℕ} {t : ℕ} (bounded : Bounded 
         by-found (no some) =
             inl (those-all test v (net .nodes) (marked .below v inside) (found-leaf (found-in v) (found-out v) (omega arith) none))
 
-    out-none : {u g : ℕ} → area g ≡ 1 → List·Memᴰ u (net .fanins g) → found-in g ≡ 0 → found-out u ≡ 0
-    out-none {u} {g} inside feeds e = by-found (ℕ-discrete (found-out u) 0)
-      where
-        by-found : Dec (found-out u ≡ 0) → found-out u ≡ 0
-        by-found (yes none) = none
-        by-found (no some) = absurd (omega (arith, settled g inside .calm .fanin u feeds (omega arith)))
-
     -- The walk: D, and the area's far side
 
     met-side : {u v : ℕ} → InD net lab t v ⊎ ((area v ≡ 1) × (found-in v ≡ 0)) → List·Memᴰ u (net .fanins v) →
@@ -155,7 +148,7 @@ module _ {net : Net} {k : ℕ} {lab : ℕ → ℕ} {t : ℕ} (bounded : Bounded 
         let ended = marked .ends-all u e in inr (end-inside u ended, settled u (end-inside u ended) .no-end ended))
         (deep-fanin bounded ranked gate never-falls deep feeds)
     met-side {u} {v} (inr (inside, far)) feeds =
-        inr (marked .area-all u (area-closed bounded ranked gate never-falls (marked .area-holds v inside) feeds), out-none inside feeds far)
+        inr (marked .area-all u (area-closed bounded ranked gate never-falls (marked .area-holds v inside) feeds), out-none flow (marked .below) found settled end-inside inside feeds far)
 
     walk-side : {v : ℕ} → Walked net leaves t v → InD net lab t v ⊎ ((area v ≡ 1) × (found-in v ≡ 0))
     walk-side Walked.start = inl InD.self

@@ -14,4 +14,5 @@ pub mod Augmented
 pub mod Rounded
 pub mod Answered
 pub mod Listing
+pub mod Leads
 pub mod Unique

@@ -1,6 +1,6 @@
 -- The three stores that change a flow keep its links: to free the out-state of a node, to link it to a loose node, and to drop a node that only
 -- stands between the source and the sink. Freeing adds one start, the others take one away.
-use Prim.Native.Nat.{ℕ, zero, suc, _+_, _≤_, _<_}
+use Prim.Native.Nat.{ℕ, suc, _≤_, _<_}
 use native.Mathlib.Decide.{ℕ-discrete}
 use native.Mathlib.Omega.{arith}
 use mathlib.Core.Path.{_≡_, refl, sym, ap, subst, _∙_}

@@ -4,7 +4,7 @@ use native.Mathlib.Nat.{not-suc-le-zero}
 use native.Mathlib.Numerals.{add-one}
 use native.Mathlib.Decide.{ℕ-discrete}
 use native.Mathlib.Omega.{arith}
-use mathlib.Core.Path.{_≡_, refl, sym, ap, subst, _∙_}
+use mathlib.Core.Path.{_≡_, refl, sym, ap, _∙_}
 use mathlib.Core.Bool.{Bool, true, false, cond}
 use mathlib.Core.List.{List, [], _∷_, _++_, map, append-assoc, append-nil}
 use lib.ListN.{length, getD, set, take, length-append, length-map, List·getD-append, List·getD-eq-default}
@@ -17,7 +17,8 @@ use Rattle.flow.specs.Numbers.{those}
 use Rattle.flow.specs.Turns.{at}
 use Rattle.flow.specs.Paths.{onward, follow, pathsIn}
 use Rattle.flow.specs.Reads.{StartRead, Listed, PathRead}
-use Rattle.flow.proofs.Rounded.{sets-more, those-yes, those-no}
+use Rattle.drawing.proofs.Stores.{sets-more}
+use Rattle.flow.proofs.Rounded.{those-yes}
 
 module _ (test : ℕ → Bool) where
   -- one more number: one more that passes, or none

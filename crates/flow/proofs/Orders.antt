@@ -1,12 +1,12 @@
 -- An order of the gates gives each node a rank: 0 at an input, one more than its place at a gate. Where there is an input, ranks are below the number
 -- of nodes.
-use Prim.Native.Nat.{ℕ, zero, suc, _+_, _*_, _-_, _≤_, _<_}
+use Prim.Native.Nat.{ℕ, zero, suc, _+_, _*_, _≤_, _<_}
 use native.Mathlib.Nat.{not-suc-le-zero}
 use native.Mathlib.Decide.{ℕ-discrete, decLt}
 use native.Mathlib.Omega.{arith}
-use mathlib.Core.Path.{_≡_, refl, sym, ap, subst, _∙_}
-use mathlib.Core.Bool.{Bool, true, false, cond}
-use mathlib.Core.Logic.{_⊎_, inl, inr, ⊎-elim}
+use mathlib.Core.Path.{_≡_, sym, ap, subst, _∙_}
+use mathlib.Core.Bool.{Bool, cond}
+use mathlib.Core.Logic.{_⊎_, inl, inr}
 use mathlib.Core.List.{List, [], _∷_, List·Memᴰ, List·Memᴰ·head, List·Memᴰ·tail, List·Memᴰ·not-nil}
 use lib.ListN.{length, getD, take, drop, length-take, length-drop}
 use lib.Seq.{getD-take, getD-drop}
@@ -14,9 +14,11 @@ use lib.Dec.{eqb, ltb}
 use borrow.Author.Tests.{eq-eqb, ne-eqb, lt-ltb, le-ltb}
 use Rattle.theory.specs.Net.{Net, Gate, Input}
 use Rattle.theory.specs.Sound.{Bounded, Ranked}
-use Rattle.theory.proofs.Walks.{input-or-gate, reader-is-gate, gate-no-input, fanin-node}
+use Rattle.theory.proofs.Walks.{input-or-gate, reader-is-gate, fanin-node}
 use Rattle.drawing.specs.Table.{netIn}
 use Rattle.walking.specs.Arrays.{Drawn, Ordered}
+use Rattle.walking.proofs.Entries.{member-at, fanins-in, fanins-out}
+pub use Rattle.walking.proofs.Entries.{member-at as place-member}
 
 -- the first place at which v stands
 place : List ℕ → ℕ → ℕ
@@ -60,11 +62,6 @@ place-first v (x ∷ l) (suc j) low e =
 pub stands : {v : ℕ} {l : List ℕ} → List·Memᴰ v l → (i : ℕ) × (i < length l) × (getD l i 0 ≡ v)
 stands {v} {l} m = (place l v, place-low m, place-stands m)
 
-pub place-member : (l : List ℕ) (i : ℕ) → i < length l → List·Memᴰ (getD l i 0) l
-place-member [] i low = absurd (not-suc-le-zero low)
-place-member (x ∷ l) zero low = List·Memᴰ·head refl
-place-member (x ∷ l) (suc i) low = List·Memᴰ·tail (place-member l i (omega arith))
-
 -- Ranks
 
 module _ {net : Net} {k : ℕ} {order : List ℕ} (bounded : Bounded net k) (nodes-feed : (v : ℕ) → net .nodes ≤ v → net .fanins v ≡ []) (ordered : Ordered net order) where
@@ -107,13 +104,9 @@ module _ {net : Net} {k : ℕ} {order : List ℕ} (bounded : Bounded net k) (nod
 -- The fanins that arrays hold
 
 module _ (inputs nodes : ℕ) (fan count : List ℕ) where
-  pub no-node-feeds : (v : ℕ) → nodes ≤ v → netIn inputs nodes fan count .fanins v ≡ []
-  unfolding netIn
-  no-node-feeds v high = ap (λ (b : Bool). cond b (take (getD count v 0) (drop (6 * v) fan)) []) (le-ltb v nodes high)
-
   pub no-feeds : (v : ℕ) → netIn inputs nodes fan count .nodes ≤ v → netIn inputs nodes fan count .fanins v ≡ []
   unfolding netIn
-  no-feeds v high = no-node-feeds v high
+  no-feeds v high = fanins-out inputs nodes fan count v high
 
   pub inputs-held : {v : ℕ} → v < netIn inputs nodes fan count .inputs → v < inputs
   unfolding netIn
@@ -127,10 +120,6 @@ module _ (inputs nodes : ℕ) (fan count : List ℕ) where
   unfolding netIn
   nodes-room less = less
 
-  fanins-held : (v : ℕ) → v < nodes → netIn inputs nodes fan count .fanins v ≡ take (getD count v 0) (drop (6 * v) fan)
-  unfolding netIn
-  fanins-held v low = ap (λ (b : Bool). cond b (take (getD count v 0) (drop (6 * v) fan)) []) (lt-ltb v nodes low)
-
   module _ {k : ℕ} (drawn : Drawn inputs nodes k fan count) where
     fanins-long : (v : ℕ) → v < nodes → length (take (getD count v 0) (drop (6 * v) fan)) ≡ getD count v 0
     fanins-long v low = simp (length-take, length-drop) (omega (arith, drawn .six v low, drawn .fan-long))
@@ -141,13 +130,13 @@ module _ (inputs nodes : ℕ) (fan count : List ℕ) where
     pub fanin-there : (v i : ℕ) → v < nodes → i < getD count v 0 → List·Memᴰ (getD fan (6 * v + i) 0) (netIn inputs nodes fan count .fanins v)
     fanin-there v i low less =
         let l = take (getD count v 0) (drop (6 * v) fan) in
-        subst (List·Memᴰ (getD fan (6 * v + i) 0)) (sym (fanins-held v low))
-        (subst (λ (x : ℕ). List·Memᴰ x l) (fanin-held v i low less) (place-member l i (omega (arith, fanins-long v low))))
+        subst (List·Memᴰ (getD fan (6 * v + i) 0)) (sym (fanins-in inputs nodes fan count v low))
+        (subst (λ (x : ℕ). List·Memᴰ x l) (fanin-held v i low less) (member-at l i (omega (arith, fanins-long v low))))
 
     pub fanin-place : (v : ℕ) {u : ℕ} → v < nodes → List·Memᴰ u (netIn inputs nodes fan count .fanins v) →
         (i : ℕ) × (i < getD count v 0) × (getD fan (6 * v + i) 0 ≡ u)
     fanin-place v {u} low m =
-        let (i, less, e) = stands (subst (List·Memᴰ u) (fanins-held v low) m) in
+        let (i, less, e) = stands (subst (List·Memᴰ u) (fanins-in inputs nodes fan count v low) m) in
         let short : i < getD count v 0 = omega (arith, fanins-long v low) in
         (i, short, sym (fanin-held v i low short) ∙ e)
 

@@ -38,7 +38,7 @@ joined-member f {w} (s ∷ l) m =
     (List·Memᴰ·append-cases (f s) m)
 
 -- w lies on the way from s along `next`
-data On (next : ℕ → ℕ) (s : ℕ) : ℕ → Type 0 where
+pub data On (next : ℕ → ℕ) (s : ℕ) : ℕ → Type 0 where
   here : On next s s
   further : {u w : ℕ} → On next s u → next u ≡ suc (suc w) → On next s w
 

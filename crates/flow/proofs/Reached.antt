@@ -1,15 +1,14 @@
 -- What a search says that found no end. Its leaves divide the area with equations at every node, so that there are as many leaves as paths. And all
 -- that it found lies on the near side of every tight division, by induction on the number.
 use Prim.Native.Nat.{ℕ, zero, suc, _+_, _≤_, _<_}
-use native.Mathlib.Decide.{ℕ-discrete, decLt}
 use native.Mathlib.Omega.{arith}
-use mathlib.Core.Path.{_≡_, refl, sym, ap, subst, _∙_}
-use mathlib.Core.Bool.{Bool, true, false, cond}
+use mathlib.Core.Path.{_≡_, refl, sym, ap, _∙_}
+use mathlib.Core.Bool.{cond}
 use mathlib.Core.Logic.{_⊎_, inl, inr, ⊎-elim}
 use mathlib.Core.List.{List·Memᴰ}
 use Rattle.theory.specs.Net.{Net}
 use Rattle.flow.specs.Numbers.{sum}
-use Rattle.flow.specs.Flow.{one, isLeaf, Linked, Carries, WayIn, WayOut, Found, Settled}
+use Rattle.flow.specs.Flow.{isLeaf, Linked, Carries, WayIn, WayOut, Found, Settled}
 use Rattle.flow.proofs.Links.{used-come}
 use Rattle.flow.proofs.Counting.{held, gone, Divides, as-many-paths, tight-at-node, tight-leaf}
 
@@ -70,7 +69,7 @@ module _ {net : Net} {area ends next prev found-in found-out parent : ℕ → �
   between v = leaf (found-in v) (found-out v)
 
   -- behind an in-state that was not found no out-state was
-  out-none : {u g : ℕ} → area g ≡ 1 → List·Memᴰ u (net .fanins g) → found-in g ≡ 0 → found-out u ≡ 0
+  pub out-none : {u g : ℕ} → area g ≡ 1 → List·Memᴰ u (net .fanins g) → found-in g ≡ 0 → found-out u ≡ 0
   out-none {u} {g} inside feeds e =
       ⊎-elim (λ none. none) (λ some. absurd (omega (arith, settled g inside .calm .fanin u feeds some))) (some-or-none (found-out u))
 

@@ -1,25 +1,25 @@
 -- The rounds keep a flow with as many paths as rounds; leaves are written one behind the other.
 use Prim.Native.Nat.{ℕ, zero, suc, _+_, _≤_, _<_}
-use native.Mathlib.Nat.{add-zero, suc-add, add-suc, not-suc-le-zero}
+use native.Mathlib.Nat.{not-suc-le-zero}
 use native.Mathlib.Numerals.{add-one}
 use native.Mathlib.Decide.{ℕ-discrete}
 use native.Mathlib.Omega.{arith}
 use mathlib.Core.Path.{_≡_, refl, sym, ap, subst, subst₂, _∙_}
 use mathlib.Core.Bool.{Bool, true, false, cond}
-use mathlib.Core.Logic.{_⊎_, inl, inr}
 use mathlib.Core.List.{List, [], _∷_, _++_, append-nil}
-use lib.ListN.{length, set, replicate, length-set, length-replicate, length-append}
+use lib.ListN.{length, set, replicate, length-replicate, length-append}
 use lib.Seq.{sets, length-sets}
 use Rattle.theory.specs.Net.{Net}
 use Rattle.drawing.specs.Table.{netIn}
-use Rattle.flow.specs.Numbers.{sum, those}
-use Rattle.flow.specs.Flow.{one, isLeaf, Linked, Carries}
+use Rattle.flow.specs.Numbers.{those}
+use Rattle.flow.specs.Flow.{one, isLeaf, Carries}
 use Rattle.flow.specs.Turns.{at, Searched}
 use Rattle.flow.specs.Sweeps.{Field, AllSettled}
 use Rattle.flow.specs.Augments.{FlowIn, startsOf, RoundAsked, RoundDone}
 use Rattle.flow.specs.Rounds.{RunAsked, leavesIn, LeafPut}
-use Rattle.flow.proofs.Sums.{sum-zero, those-length}
+use Rattle.flow.proofs.Sums.{sum-zero}
 use Rattle.flow.proofs.Sweeping.{zeros-at}
+use Rattle.drawing.proofs.Stores.{sets-more}
 
 -- No path yet
 
@@ -102,12 +102,6 @@ module _ {inputs nodes k : ℕ} {fan count area ends : List ℕ} where
     )
 
 -- Leaves
-
-pub sets-more : (l : List ℕ) (i : ℕ) (vs : List ℕ) (v : ℕ) → set (sets l i vs) (i + length vs) v ≡ sets l i (vs ++ (v ∷ []))
-sets-more l i [] v = ap (λ (j : ℕ). set l j v) (add-zero i)
-sets-more l i (a ∷ vs) v =
-    ap (λ (j : ℕ). set (sets (set l i a) (suc i) vs) j v) (add-suc i (length vs) ∙ sym (suc-add i (length vs)))
-    ∙ sets-more (set l i a) (suc i) vs v
 
 pub those-yes : (test : ℕ → Bool) (i : ℕ) → test i ≡ true → those test (suc i) ≡ those test i ++ (i ∷ [])
 unfolding those

@@ -1,9 +1,9 @@
 -- Stores of a list as stores of its function, and a list that was filled to its end.
-use Prim.Native.Nat.{ℕ, _≤_, _<_}
+use Prim.Native.Nat.{ℕ, _<_}
 use native.Mathlib.Omega.{arith}
-use mathlib.Core.Path.{_≡_, refl, sym, ap, subst, _∙_}
-use mathlib.Core.List.{List, [], _++_, append-nil}
-use lib.ListN.{length, getD, set, drop, replicate, drop-of-length-le}
+use mathlib.Core.Path.{_≡_, sym, ap, subst, _∙_}
+use mathlib.Core.List.{List, _++_, append-nil}
+use lib.ListN.{length, set, drop, replicate, drop-of-length-le}
 use lib.Seq.{getD-set-same, getD-set-other}
 use Rattle.flow.specs.Numbers.{Upd}
 use Rattle.flow.specs.Turns.{at}

@@ -1,26 +1,24 @@
 -- A sweep: where it gave no number, nothing changed, and every node that it passed is settled; it passes all nodes.
-use Prim.Native.Nat.{ℕ, zero, suc, _+_, _*_, _-_, _≤_, _<_}
+use Prim.Native.Nat.{ℕ, zero, suc, _+_, _-_, _≤_, _<_}
 use native.Mathlib.Decide.{ℕ-discrete, decLt}
 use native.Mathlib.Omega.{arith}
 use mathlib.Core.Path.{_≡_, refl, sym, ap, subst, subst₂, _∙_}
-use mathlib.Core.Bool.{Bool, true, false, not, cond}
-use mathlib.Core.Logic.{_⊎_, inl, inr, ⊎-elim}
+use mathlib.Core.Bool.{Bool, true, false, not}
 use mathlib.Core.List.{List}
 use lib.ListN.{length, getD, replicate, length-replicate, List·getD-eq-default, getD-replicate}
 use lib.Dec.{eqb}
-use borrow.Author.Tests.{lt-ltb, le-ltb, eqb-true, eqb-false, eq-eqb, ne-eqb}
-use Rattle.theory.specs.Net.{Net, Gate, Input}
+use borrow.Author.Tests.{ne-eqb}
 use Rattle.drawing.specs.declared.Node.{Node}
 use Rattle.drawing.specs.Table.{netIn}
-use Rattle.walking.specs.Arrays.{Ordered}
 use Rattle.flow.specs.declared.searching.Swept.{Swept}
 use Rattle.flow.specs.declared.searching.Swept.the-variants.{Reached, UpTo}
 use Rattle.flow.specs.declared.searching.Sought.{Sought}
 use Rattle.flow.specs.declared.searching.Sought.the-variants.{End, Nothing}
-use Rattle.flow.specs.Flow.{Found, Calm, Settled}
-use Rattle.flow.specs.Turns.{at, nodeAt, Ground, Searched, Visited, VisitAsked}
-use Rattle.flow.specs.Sweeps.{EndReached, Field, SweepAsked, AllSettled, EndFound, SweptSo, SearchAsked, SoughtSo}
-use Rattle.flow.proofs.Orders.{stands, place-member}
+use Rattle.flow.specs.Flow.{Settled}
+use Rattle.flow.specs.Turns.{at, nodeAt, Searched, Visited}
+use Rattle.flow.specs.Sweeps.{EndReached, Field, AllSettled, EndFound, SweptSo, SearchAsked, SoughtSo}
+use Rattle.walking.proofs.Entries.{member-at}
+use Rattle.flow.proofs.Orders.{stands}
 use Rattle.flow.proofs.Finding.{area-low, none-found}
 use Rattle.flow.proofs.Ways.{node-input, node-gate}
 
@@ -80,7 +78,7 @@ module _ {inputs nodes : ℕ} {fan count order area ends : List ℕ} (field : Fi
       by-side (yes less) = omega (arith, node-input inputs order i less)
       by-side (no high) =
           let at-place : i - inputs < length order = omega (arith, order-size) in
-          omega (arith, node-gate inputs order i (omega arith), field .ordered .gates (getD order (i - inputs) 0) (place-member order (i - inputs) at-place) .below)
+          omega (arith, node-gate inputs order i (omega arith), field .ordered .gates (getD order (i - inputs) 0) (member-at order (i - inputs) at-place) .below)
 
   node-turn : (v : ℕ) → v < nodes → (i : ℕ) × (i < nodes) × (nodeAt inputs order i ≡ v)
   unfolding netIn

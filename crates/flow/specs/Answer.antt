@@ -4,7 +4,7 @@ use mathlib.Core.Path.{_≡_}
 use mathlib.Core.List.{List, _++_}
 use lib.ListN.{length, take, drop, replicate}
 use lib.Seq.{sets}
-use Rattle.theory.specs.Net.{Net, Gate}
+use Rattle.theory.specs.Net.{Gate}
 use Rattle.theory.specs.Evidence.{Evidence, LeastCut, NeverFalls}
 use Rattle.drawing.specs.Table.{netIn}
 use Rattle.drawing.specs.declared.CutSize.{CutSize}
@@ -12,7 +12,7 @@ use Rattle.walking.specs.Arrays.{Drawn, Ordered, Marks}
 use Rattle.flow.specs.declared.Flow.{Flow}
 use Rattle.flow.specs.declared.Flow.the-variants.{Paths, Cut}
 use Rattle.area.specs.Area.{InArea, IsEnd}
-use Rattle.flow.specs.Paths.{pathsIn}
+use Rattle.flow.specs.Paths.{pathsIn, LinksIn}
 use Rattle.flow.specs.Turns.{Searched}
 use Rattle.flow.specs.Sweeps.{AllSettled}
 use Rattle.flow.specs.Augments.{FlowIn}
@@ -48,12 +48,13 @@ pub record FlowAsked (inputs nodes k : ℕ) (fan count order area ends next prev
 abbrev pub cleared : ℕ → List ℕ → List ℕ
 cleared n l = replicate n 0 ++ drop n l
 
--- *Paths*: evidence stands in `next` and `prev`. *Cut*: the mapper's cut stands in the first entries of `leaves`. All else that was lent is as
+-- *Paths*: evidence stands in `next` and `prev`, and nothing else does. *Cut*: the mapper's cut stands in the first entries of `leaves`. All else that was lent is as
 -- before, but for scratch, which is cleared.
 pub data FlowAnswer (inputs nodes k : ℕ) (fan count area ends next prev ins outs parent leaves : List ℕ) (r : Flow)
     (next′ prev′ ins′ outs′ parent′ leaves′ : List ℕ) : Type 0 where
   paths : r ≡ Paths →
       ((lab : ℕ → ℕ) (t : ℕ) → AreaOf inputs nodes fan count area ends lab t → Evidence (netIn inputs nodes fan count) k lab t (pathsIn inputs nodes next′ prev′)) →
+      LinksIn (netIn inputs nodes fan count) nodes next′ prev′ →
       drop nodes next′ ≡ drop nodes next → drop nodes prev′ ≡ drop nodes prev → ins′ ≡ cleared nodes ins → outs′ ≡ cleared nodes outs →
       parent′ ≡ cleared nodes parent → leaves′ ≡ leaves →
       FlowAnswer inputs nodes k fan count area ends next prev ins outs parent leaves r next′ prev′ ins′ outs′ parent′ leaves′

@@ -10,7 +10,7 @@ use Rattle.flow.specs.declared.reading.Start.{Start}
 use Rattle.flow.specs.declared.reading.Start.the-variants.{At, Missing}
 use Rattle.flow.specs.Numbers.{those}
 use Rattle.flow.specs.Turns.{at}
-use Rattle.flow.specs.Paths.{follow, pathsIn}
+use Rattle.flow.specs.Paths.{pathsIn}
 
 -- the i-th of the inputs at which paths start, if there are so many
 pub data StartRead (prev : List ℕ) (inputs i : ℕ) (r : Start) : Type 0 where

@@ -1,10 +1,9 @@
 -- What the rounds ask and leave, and how leaves are written.
 use Prim.Native.Nat.{ℕ, suc, _≤_, _<_}
 use mathlib.Core.Path.{_≡_}
-use mathlib.Core.Bool.{Bool, true, false}
+use mathlib.Core.Bool.{true, false}
 use mathlib.Core.List.{List}
 use lib.ListN.{length, set}
-use lib.Seq.{sets}
 use Rattle.flow.specs.declared.rounds.Outcome.{Outcome}
 use Rattle.flow.specs.declared.rounds.Outcome.the-variants.{Many, Full}
 use Rattle.flow.specs.Numbers.{those}

@@ -3,20 +3,15 @@ use Prim.Native.Nat.{ℕ, suc, _+_, _*_, _-_, _≤_, _<_}
 use mathlib.Core.Path.{_≡_}
 use mathlib.Core.Logic.{_⊎_}
 use mathlib.Core.Bool.{Bool, true, false, cond}
-use mathlib.Core.List.{List, List·Memᴰ}
-use lib.ListN.{length, getD, set, take, drop}
+use mathlib.Core.List.{List}
+use lib.ListN.{length, getD, set}
 use lib.Dec.{ltb}
-use Rattle.theory.specs.Net.{Net}
 use Rattle.drawing.specs.Table.{netIn}
-use Rattle.walking.specs.Arrays.{Drawn, Ordered}
+use Rattle.walking.specs.Arrays.{Drawn}
 use Rattle.flow.specs.Flow.{Found, Calm}
 
 abbrev pub at : List ℕ → ℕ → ℕ
 at l v = getD l v 0
-
--- the fanins that arrays hold for a node
-abbrev pub faninsIn : List ℕ → List ℕ → ℕ → List ℕ
-faninsIn fan count v = take (getD count v 0) (drop (6 * v) fan)
 
 -- the i-th of the inputs and then the order
 abbrev pub nodeAt : (inputs : ℕ) (order : List ℕ) (i : ℕ) → ℕ

@@ -5,8 +5,7 @@ use crate::cells::clear;
 use drawing::CutSize;
 use drawing::Node;
 ghost use mathlib.Core.Path.{_≡_};
-ghost use Prim.Native.Nat.{_≤_, _<_};
-ghost use lib.ListN.{length};
+ghost use Prim.Native.Nat.{_<_};
 ghost use lib.Seq.{sets};
 ghost use Rattle.flow.specs.Rounds.{RunAsked, Ran, leavesIn, LeafPut, LeafAsked, LeavesAsked};
 

@@ -8,7 +8,7 @@ use crate::cells::put;
 use drawing::Node;
 ghost use mathlib.Core.Path.{_≡_};
 ghost use Prim.Native.Nat.{_+_, _*_, _≤_, _<_};
-ghost use lib.ListN.{length, getD};
+ghost use lib.ListN.{length};
 ghost use Rattle.flow.specs.Sweeps.{EndReached, SweepAsked, SweptSo, SearchAsked, SoughtSo};
 ghost use Rattle.flow.specs.Turns.{nodeAt, Fed, FaninFound, InAsked, OutAsked, Entered, Left, VisitInAsked, VisitOutAsked, VisitedIn, VisitedOut, VisitAsked, Visited};
 

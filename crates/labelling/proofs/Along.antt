@@ -22,7 +22,8 @@ use Rattle.theory.proofs.Existence.{rules-exist}
 use Rattle.theory.proofs.FlowMap.{Labels, labels-at-inputs, label-peaked, label-over-inputs, label-at-peak, labels-never-fall}
 use Rattle.walking.specs.Arrays.{Ordered}
 use Rattle.area.proofs.Parts.{member-at}
-use Rattle.labelling.specs.Labelling.{TrueLabel, Told, LabelledTo}
+use Rattle.searching.specs.Searching.{TrueLabel}
+use Rattle.labelling.specs.Labelling.{Told, LabelledTo}
 use Rattle.labelling.proofs.Agreeing.{Agree, agree-back, least-cut-agrees, mappers-cut-agrees, tight-agrees, never-falls-agrees}
 
 -- two places of a list without repeats have different entries

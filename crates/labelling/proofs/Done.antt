@@ -1,8 +1,7 @@
--- When all gates are done: the labels are the labels, the cuts the mapper's, and it is known which gates owe evidence. And how large labels
--- grow: the gate at place j has a label of at most j + 1, so labels fit wherever ids do.
+-- When all gates are done: the labels are the labels, and the cuts the mapper's. And how large labels grow: the gate at place j has a label of at
+-- most j + 1, so labels fit wherever ids do.
 use Prim.Native.Nat.{ℕ, zero, suc, _≤_, _<_}
 use native.Mathlib.Nat.{not-suc-le-zero}
-use native.Mathlib.Decide.{ℕ-discrete}
 use native.Mathlib.Omega.{arith}
 use mathlib.Core.Path.{_≡_, sym, ap, subst}
 use mathlib.Core.Logic.{_⊎_, inl, inr, ⊎-elim}
@@ -11,15 +10,15 @@ use lib.ListN.{length, getD}
 use Rattle.theory.specs.Net.{Net, Gate, Input}
 use Rattle.theory.specs.Sound.{Bounded, Ranked}
 use Rattle.theory.specs.Cover.{Label}
-use Rattle.theory.specs.Evidence.{peak, Evidence, LeastCut, MappersCut, Owes}
-use Rattle.theory.proofs.Walks.{cut-stops, input-or-gate}
-use Rattle.theory.proofs.Duality.{evidence-is-tight}
+use Rattle.theory.specs.Evidence.{peak, MappersCut}
+use Rattle.theory.proofs.Walks.{input-or-gate}
 use Rattle.theory.proofs.Rules.{peak-agrees}
 use Rattle.theory.proofs.Members.{greatest-at-most}
-use Rattle.theory.proofs.FlowMap.{Labels, labels-at-inputs, label-peaked, label-at-peak, labels-never-fall}
+use Rattle.theory.proofs.FlowMap.{labels-at-inputs, label-peaked}
 use Rattle.walking.specs.Arrays.{Ordered}
 use Rattle.area.proofs.Areas.{input-in-area}
-use Rattle.labelling.specs.Labelling.{TrueLabel, LabelledTo}
+use Rattle.searching.specs.Searching.{TrueLabel}
+use Rattle.labelling.specs.Labelling.{LabelledTo}
 use Rattle.labelling.proofs.Along.{place-gate, true-label, true-labels, agree-behind}
 
 place-of : {v : ℕ} {l : List ℕ} → List·Memᴰ v l → (j : ℕ) × (j < length l) × (getD l j 0 ≡ v)
@@ -37,37 +36,6 @@ module _ {net : Net} {k : ℕ} {order : List ℕ} {lab : ℕ → ℕ} {choice : 
 
   pub all-cuts : (v : ℕ) → Gate net v → MappersCut net k lab v (choice v)
   all-cuts v g = let (j, low, e) = place-of (ordered .all v g) in subst (λ (x : ℕ). MappersCut net k lab x (choice x)) e (done .cut j low)
-
--- Evidence is owed where a second search gives paths, and nowhere else.
-module _ {net : Net} {k : ℕ} {lab : ℕ → ℕ} (bounded : Bounded net k) (ranked : Ranked net) (labels : (v : ℕ) → v < net .nodes → TrueLabel net k v (lab v))
-    {t : ℕ} (gate : Gate net t) where
-  labelled : Labels net k [] lab
-  labelled v node = labels v node []
-
-  pub owes-no-cut : {leaves : List ℕ} → Owes net lab t → LeastCut net k lab t leaves → ⊥
-  owes-no-cut {leaves} owes least =
-      let e = label-at-peak bounded ranked labelled gate (owes .some) .1 (leaves, least .cut, least .outside) in
-      let f = owes .above in
-      omega arith
-
-  pub evidence-owes : {paths : List (List ℕ)} → 1 ≤ peak net lab t → Evidence net k lab t paths → Owes net lab t
-  evidence-owes some evidence = record { above = above (label-peaked bounded ranked labelled gate); some = some }
-    where
-      above : (lab t ≡ peak net lab t) ⊎ (lab t ≡ suc (peak net lab t)) → lab t ≡ suc (peak net lab t)
-      above (inr e) = e
-      above (inl e) =
-          let (leaves, cut, outside) = label-at-peak bounded ranked labelled gate some .0 e in
-          absurd (evidence-is-tight (labels-never-fall bounded ranked labelled (gate .below)) bounded (gate .below) evidence leaves (cut-stops cut) outside)
-
-  -- a label that is p owes nothing, and one above p owes evidence unless p is 0
-  pub owes-cases : Owes net lab t ⊎ ((lab t ≡ peak net lab t) ⊎ (peak net lab t ≡ 0))
-  owes-cases = by-peak (label-peaked bounded ranked labelled gate) (ℕ-discrete (peak net lab t) 0)
-    where
-      by-peak : (lab t ≡ peak net lab t) ⊎ (lab t ≡ suc (peak net lab t)) → Dec (peak net lab t ≡ 0) →
-          Owes net lab t ⊎ ((lab t ≡ peak net lab t) ⊎ (peak net lab t ≡ 0))
-      by-peak (inl e) _ = inr (inl e)
-      by-peak (inr e) (yes none) = inr (inr none)
-      by-peak (inr e) (no some) = inl (record { above = e; some = omega arith })
 
 -- How large labels grow
 

@@ -6,7 +6,3 @@ pub mod Stored
 pub mod One
 pub mod Turns
 pub mod Fanins
-pub mod Telling
-pub mod Scratches
-pub mod Probes
-pub mod Evidences

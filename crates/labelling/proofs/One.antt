@@ -1,5 +1,4 @@
--- What labelling promises is one content of the arrays: labels are one number, the mapper's cut is one list, and all else is as before. Of found
--- evidence all but the links is one.
+-- What labelling promises is one content of the arrays: labels are one number, the mapper's cut is one list, and all else is as before.
 use Prim.Native.Nat.{ℕ, _+_, _*_, _/_, _%_, _≤_, _<_}
 use native.Mathlib.Decide.{decLt}
 use native.Mathlib.Omega.{arith}
@@ -15,8 +14,10 @@ use Rattle.theory.proofs.Labels.{label-is-one}
 use Rattle.theory.proofs.MappersCuts.{mappers-cut-is-one}
 use Rattle.drawing.specs.Table.{netIn}
 use Rattle.area.proofs.Marking.{drop-agrees}
+use Rattle.searching.specs.Searching.{Scratch}
+use Rattle.searching.proofs.OneProbe.{marks-one}
 use Rattle.labelling.specs.Storing.{cutIn, LabellingMade}
-use Rattle.labelling.specs.Labels.{Scratch, scratchOf, MarksCleared, LabelsMade, EvidenceFound}
+use Rattle.labelling.specs.Gates.{LabelsMade}
 use Rattle.labelling.proofs.Places.{cut-entry, cut-length}
 
 -- lists that agree beyond n, with room for n in both
@@ -89,26 +90,6 @@ module _ {net : Net} {k : ℕ} (bounded : Bounded net k) (ranked : Ranked net) {
 
 -- The promise of `label_gates`
 
--- the scratch, with other links
-abbrev withLinks : Scratch → (next prev : List ℕ) → Scratch
-withLinks s next prev = scratchOf (s .walked) (s .met) (s .deep) (s .area) (s .ends) next prev (s .ins) (s .outs) (s .parent)
-
-marks-one : {nodes : ℕ} {s₀ s s′ : Scratch} → MarksCleared nodes s₀ s → MarksCleared nodes s₀ s′ → {next prev next′ prev′ : List ℕ} →
-    next ≡ next′ → prev ≡ prev′ → withLinks s next prev ≡ withLinks s′ next′ prev′
-marks-one a b next-same prev-same = λ j.
-    record {
-      walked = (a .walked-clear ∙ sym (b .walked-clear)) j;
-      met = (a .met-clear ∙ sym (b .met-clear)) j;
-      deep = (a .deep-clear ∙ sym (b .deep-clear)) j;
-      area = (a .area-clear ∙ sym (b .area-clear)) j;
-      ends = (a .ends-clear ∙ sym (b .ends-clear)) j;
-      next = next-same j;
-      prev = prev-same j;
-      ins = (a .in-clear ∙ sym (b .in-clear)) j;
-      outs = (a .out-clear ∙ sym (b .out-clear)) j;
-      parent = (a .parent-clear ∙ sym (b .parent-clear)) j;
-    }
-
 pub record OneLabelling (labels leaves sizes : List ℕ) (s : Scratch) (labels′ leaves′ sizes′ : List ℕ) (s′ : Scratch) : Type 0 where
   pub labels-same : labels ≡ labels′
   pub leaves-same : leaves ≡ leaves′
@@ -128,19 +109,3 @@ module _ {inputs nodes k : ℕ} {fan count : List ℕ} (bounded : Bounded (netIn
         sizes-same = sizes-one bounded ranked (a .made) (b .made) same;
         scratch-same = marks-one (a .marks) (b .marks) (a .links .next-clear ∙ sym (b .links .next-clear)) (a .links .prev-clear ∙ sym (b .links .prev-clear));
       }
-
--- The promise of `find_evidence`: "any true set will do", so the links within the nodes are free.
-
-pub record OneButLinks (nodes : ℕ) (s s′ : Scratch) : Type 0 where
-  pub marks-same : (next prev : List ℕ) → withLinks s next prev ≡ withLinks s′ next prev
-  pub next-beyond : drop nodes (s .next) ≡ drop nodes (s′ .next)
-  pub prev-beyond : drop nodes (s .prev) ≡ drop nodes (s′ .prev)
-
-pub evidence-found-one : {inputs nodes k : ℕ} {fan count labels : List ℕ} {t : ℕ} {s₀ s s′ : Scratch} →
-    EvidenceFound inputs nodes k fan count labels t s₀ s → EvidenceFound inputs nodes k fan count labels t s₀ s′ → OneButLinks nodes s s′
-evidence-found-one a b =
-    record {
-      marks-same = λ next prev. marks-one (a .marks) (b .marks) refl refl;
-      next-beyond = a .next-beyond ∙ sym (b .next-beyond);
-      prev-beyond = a .prev-beyond ∙ sym (b .prev-beyond);
-    }

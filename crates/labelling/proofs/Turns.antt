@@ -6,7 +6,6 @@ use mathlib.Core.Path.{_≡_, sym, ap, subst, _∙_}
 use mathlib.Core.List.{List, [], _++_, append-assoc, append-nil}
 use lib.ListN.{length, getD, set, take, drop, length-drop, take-append-drop, drop-of-length-le}
 use lib.Seq.{sets, sets-eq, take-all, length-take-le, drop-drop, getD-take}
-use Rattle.theory.specs.Sound.{Ranked}
 use Rattle.theory.specs.Evidence.{peak}
 use Rattle.drawing.specs.Table.{netIn}
 use Rattle.drawing.specs.declared.CutSize.{CutSize}
@@ -15,16 +14,17 @@ use Rattle.area.specs.Area.{labelIn, Fed, PeakIn}
 use Rattle.area.proofs.Parts.{fed-in}
 use Rattle.flow.specs.declared.Flow.{Flow}
 use Rattle.flow.specs.declared.Flow.the-variants.{Paths, Cut}
-use Rattle.flow.proofs.Orders.{order-ranked, no-feeds}
+use Rattle.searching.specs.Searching.{DrawnOrdered, Scratch}
+use Rattle.searching.specs.Probing.{Shown, Probed, ProbeAsked, FiveCleared}
+use Rattle.searching.proofs.Scratches.{used-none, used-more, used-long, all-cleared}
+use Rattle.searching.proofs.Owed.{by-order}
 use Rattle.labelling.specs.Labelling.{Told}
 use Rattle.labelling.specs.Storing.{StoredAbove, AboveRoom, BeginRoom, Begun, Labelling}
-use Rattle.labelling.specs.Labels.{DrawnOrdered, Scratch, LabelAsked, LabelsMade}
-use Rattle.labelling.specs.Probing.{Shown, Probed, ProbeAsked, FiveCleared}
+use Rattle.labelling.specs.Gates.{LabelAsked, LabelsMade}
 use Rattle.labelling.specs.Turning.{TurnAsked, TurnTaken, AlongAsked, Along}
 use Rattle.labelling.proofs.Along.{place-gate, never-falls-here}
 use Rattle.labelling.proofs.Done.{label-fits}
 use Rattle.labelling.proofs.Stored.{labelling-none, labelling-more, labelling-made}
-use Rattle.labelling.proofs.Scratches.{used-none, used-more, used-long, all-cleared}
 
 -- The rest of a list from place a on is lent as a part, and comes back
 
@@ -172,9 +172,6 @@ module _ {inputs nodes k : ℕ} {fan count order : List ℕ} {t : ℕ} {labels l
               }
 
 -- The turns along the order
-
-pub by-order : {inputs nodes k : ℕ} {fan count order : List ℕ} → DrawnOrdered inputs nodes k fan count order → Ranked (netIn inputs nodes fan count)
-by-order {inputs} {nodes} {k} {fan} {count} drawing = order-ranked (drawing .drawn .bounded) (no-feeds inputs nodes fan count) (drawing .ordered)
 
 pub gates-number : {inputs nodes k : ℕ} {fan count order : List ℕ} → DrawnOrdered inputs nodes k fan count order →
     inputs + length (take (nodes - inputs) order) ≡ nodes

@@ -4,12 +4,8 @@ use mathlib.Core.Path.{_≡_}
 use mathlib.Core.List.{List}
 use lib.ListN.{getD}
 use Rattle.theory.specs.Net.{Net, Input}
-use Rattle.theory.specs.Cover.{Label}
 use Rattle.theory.specs.Evidence.{peak, Evidence, LeastCut, DistinctFanins, MappersCut}
-
--- the label of v, whatever the outputs are
-abbrev pub TrueLabel : Net → (k v label : ℕ) → Type 0
-TrueLabel net k v label = (outputs : List ℕ) → Label net k outputs v label
+use Rattle.searching.specs.Searching.{TrueLabel}
 
 -- What is found at gate t, where `lab` has the labels behind t: "If p is 0 it is 1. Otherwise .. the label is p exactly when a cut of t exists
 -- with all leaves outside D", and evidence says that there is none.

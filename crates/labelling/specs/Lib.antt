@@ -1,5 +1,4 @@
 pub mod Labelling
 pub mod Storing
-pub mod Labels
-pub mod Probing
+pub mod Gates
 pub mod Turning

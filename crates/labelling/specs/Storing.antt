@@ -10,9 +10,10 @@ use Rattle.theory.specs.Net.{Net, Gate, Input}
 use Rattle.theory.specs.Evidence.{DistinctFanins, MappersCut}
 use Rattle.drawing.specs.Table.{netIn}
 use Rattle.area.specs.Area.{labelIn}
+use Rattle.searching.specs.Searching.{TrueLabel}
 use Rattle.labelling.specs.declared.distinct.Least.{Least}
 use Rattle.labelling.specs.declared.distinct.Least.the-variants.{At, Nothing}
-use Rattle.labelling.specs.Labelling.{TrueLabel, LabelledTo}
+use Rattle.labelling.specs.Labelling.{LabelledTo}
 
 -- the cut that arrays hold for a node
 abbrev pub cutIn : (leaves sizes : List ℕ) → ℕ → List ℕ

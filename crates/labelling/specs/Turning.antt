@@ -6,10 +6,10 @@ use Rattle.theory.specs.Net.{Net, Gate}
 use Rattle.theory.specs.Evidence.{peak, NeverFalls}
 use Rattle.drawing.specs.Table.{netIn}
 use Rattle.area.specs.Area.{labelIn}
+use Rattle.searching.specs.Searching.{DrawnOrdered, Scratch, ScratchLong}
+use Rattle.searching.specs.Probing.{Used}
 use Rattle.labelling.specs.Labelling.{Told}
 use Rattle.labelling.specs.Storing.{Stored, Room, Labelling}
-use Rattle.labelling.specs.Labels.{DrawnOrdered, Scratch, ScratchLong}
-use Rattle.labelling.specs.Probing.{Used}
 
 -- A gate t where the labels behind it never fall along fanins, and p + 1 fits.
 pub record TurnAsked (inputs nodes k : ℕ) (fan count order : List ℕ) (t : ℕ) (labels leaves sizes : List ℕ) (s : Scratch) : Type 0 where

@@ -1,13 +1,13 @@
 // The gates' turns along the order.
-use crate::probing::probe_gate;
 use crate::store_above;
 use crate::storing::store_label;
 use crate::storing::store_size;
 use drawing::CutSize;
 use drawing::Node;
 use flow::Flow;
+use searching::probing::probe_gate;
 ghost use Prim.Native.Nat.{_-_};
-ghost use Rattle.labelling.specs.Labels.{scratchOf};
+ghost use Rattle.searching.specs.Searching.{scratchOf};
 ghost use Rattle.labelling.specs.Turning.{TurnAsked, TurnTaken, AlongAsked, Along};
 
 // "If p is 0 it is 1. Otherwise .. the label is p exactly when a cut of t exists with all leaves outside D." The flow writes its cut to the gate's places.

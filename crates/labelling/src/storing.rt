@@ -1,33 +1,10 @@
-// Labels and cut sizes into their arrays, and zeros into the first entries of any.
+// Labels and cut sizes into their arrays.
 use drawing::CutSize;
 use drawing::Label;
 use drawing::Node;
-ghost use Prim.Native.Nat.{_≤_, _<_};
+ghost use Prim.Native.Nat.{_<_};
 ghost use mathlib.Core.Path.{_≡_};
-ghost use lib.ListN.{length, set, replicate};
-ghost use lib.Seq.{sets};
-
-pub fn clear_words(words: &mut [u16], many: usize)
-    requires { ⌜ many ≤ length (now words) ⌝ }
-    ensures { λ _. ⌜ now (words .exit) ≡ sets (now (words .entry)) 0 (replicate many 0) ⌝ }
-{
-    let mut i = 0;
-    while i < many {
-        words[i] = 0;
-        i += 1;
-    }
-}
-
-pub fn clear_bytes(bytes: &mut [u8], many: usize)
-    requires { ⌜ many ≤ length (now bytes) ⌝ }
-    ensures { λ _. ⌜ now (bytes .exit) ≡ sets (now (bytes .entry)) 0 (replicate many 0) ⌝ }
-{
-    let mut i = 0;
-    while i < many {
-        bytes[i] = 0;
-        i += 1;
-    }
-}
+ghost use lib.ListN.{length, set};
 
 pub fn store_label(labels: &mut [u16], gate: Node, label: Label)
     requires { ⌜ gate .id < length (now labels) ⌝ }

@@ -3,7 +3,6 @@ use native.Mathlib.Omega.{arith}
 use Prim.Native.Nat.{ℕ}
 use mathlib.Core.Path.{refl, ap, _∙_}
 use lib.ListN.{replicate}
-use denote.Ref.{now}
 use Rattle.flow.specs.Answer.{FlowWithin}
 use Rattle.flow.proofs.Answered.{ran-many, ran-full, leaves-asked}
 use borrow.Author.Needs.{needs}

@@ -4,7 +4,6 @@ use Prim.Native.Nat.{suc}
 use mathlib.Core.Path.{ap, _∙_}
 use native.Mathlib.Numerals.{add-two}
 use lib.ListN.{set}
-use denote.Ref.{now}
 use Rattle.flow.specs.Turns.{at}
 use Rattle.flow.specs.Augments.{Stepped}
 use Rattle.flow.proofs.Stores.{put-upd}

@@ -1,7 +1,7 @@
 -- `run` meets its contract: there are as many paths as rounds, and at most K + 1 rounds.
 use borrow.Author.Needs.{needs}
 use native.Mathlib.Omega.{arith}
-use Prim.Native.Nat.{ℕ, suc, _-_}
+use Prim.Native.Nat.{suc, _-_}
 use mathlib.Core.Path.{_≡_, refl, sym, subst, _∙_}
 use denote.Ref.{now}
 use borrow.Author.Tests.{not-true, not-false}

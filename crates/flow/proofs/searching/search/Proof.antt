@@ -1,9 +1,8 @@
 -- `search` meets its contract: each sweep keeps the search's invariant, and one that gives no number leaves all settled.
 use borrow.Author.Needs.{needs}
 use native.Mathlib.Omega.{arith}
-use Prim.Native.Nat.{ℕ, _*_, _<_, _-_}
-use mathlib.Core.Path.{refl, sym, subst, _∙_}
-use denote.Ref.{now}
+use Prim.Native.Nat.{_*_, _-_}
+use mathlib.Core.Path.{refl, sym, _∙_}
 use Rattle.flow.specs.Turns.{Searched}
 use Rattle.flow.specs.Sweeps.{SoughtSo}
 use Rattle.flow.proofs.Finding.{searched-room}

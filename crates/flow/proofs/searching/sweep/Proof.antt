@@ -2,7 +2,6 @@
 use native.Mathlib.Omega.{arith}
 use Prim.Native.Nat.{ℕ, _<_, _-_}
 use mathlib.Core.Path.{refl, sym, subst, _∙_}
-use denote.Ref.{now}
 use Rattle.flow.specs.Sweeps.{SweptSo}
 use Rattle.flow.proofs.Sweeping.{SweepLeft, sweep-starts, turn-low, inputs-small, node-low, sweep-turn, sweep-settles}
 use Rattle.flow.proofs.searching.sweep.Statement.{statement}

@@ -3,7 +3,7 @@ use native.Mathlib.Omega.{arith}
 use Prim.Native.Nat.{_-_, _≤_}
 use mathlib.Core.Path.{_≡_, refl, _∙_}
 use lib.ListN.{length}
-use Rattle.labelling.specs.Labels.{scratchOf}
+use Rattle.searching.specs.Searching.{scratchOf}
 use Rattle.labelling.specs.Turning.{Along}
 use Rattle.labelling.proofs.Turns.{gates-number, along-none, along-all, turn-asked, along-more}
 use Rattle.labelling.proofs.settling.settle_all.Statement.{statement}

@@ -9,12 +9,12 @@ use Rattle.drawing.specs.Table.{netIn}
 use Rattle.area.specs.Area.{labelIn, Fed, PeakIn}
 use Rattle.area.proofs.Parts.{fed-in}
 use Rattle.flow.specs.declared.Flow.{Flow}
-use Rattle.labelling.specs.Labelling.{TrueLabel}
-use Rattle.labelling.specs.Labels.{Scratch, scratchOf, EvidenceAsked, EvidenceFound}
-use Rattle.labelling.specs.Probing.{ProbeAsked, Shown, Probed, FiveCleared}
-use Rattle.labelling.proofs.Done.{owes-no-cut}
-use Rattle.labelling.proofs.Scratches.{marks-cleared}
-use Rattle.labelling.proofs.Turns.{by-order}
+use Rattle.searching.specs.Searching.{TrueLabel, Scratch, scratchOf, EvidenceAsked, EvidenceFound}
+use Rattle.searching.specs.Probing.{ProbeAsked, Shown, Probed, FiveCleared}
+use Rattle.searching.proofs.Owed.{owes-no-cut, by-order}
+use Rattle.searching.proofs.Scratches.{marks-cleared}
+use Rattle.flow.specs.declared.Flow.the-variants.{Paths}
+use mathlib.Core.Path.{_≡_}
 
 module _ {inputs nodes k : ℕ} {fan count order labels : List ℕ} {t : ℕ} {s : Scratch} (asked : EvidenceAsked inputs nodes k fan count order labels t s) where
   node-here : t < nodes
@@ -51,6 +51,12 @@ module _ {inputs nodes k : ℕ} {fan count order labels : List ℕ} {t : ℕ} {s
   shows-paths (Shown.least _ _ _ _ least _) =
       absurd (owes-no-cut (asked .drawing .drawn .bounded) ranked true-here (asked .gate) (asked .owes) least)
 
+  shows-reply : {paths : List (List ℕ)} {r : Flow} {cut cut′ : List ℕ} →
+      Shown (netIn inputs nodes fan count) k (labelIn labels) t paths cut r cut′ → r ≡ Paths
+  shows-reply (Shown.paths e _ _) = e
+  shows-reply (Shown.least _ _ _ _ least _) =
+      absurd (owes-no-cut (asked .drawing .drawn .bounded) ranked true-here (asked .gate) (asked .owes) least)
+
   pub evidence-found : {r : Flow} {cut cut′ : List ℕ} {s′ : Scratch} {walked met deep area ends : List ℕ} →
       Probed inputs nodes k fan count t labels s cut r s′ cut′ →
       FiveCleared nodes (s′ .walked) (s′ .met) (s′ .deep) (s′ .area) (s′ .ends) walked met deep area ends →
@@ -58,6 +64,7 @@ module _ {inputs nodes k : ℕ} {fan count order labels : List ℕ} {t : ℕ} {s
   evidence-found {s′ = s′} {walked} {met} {deep} {area} {ends} probed marks =
       record {
         evidence = shows-paths (probed .shown);
+        links = probed .links (shows-reply (probed .shown));
         next-beyond = probed .used .next-used .beyond;
         prev-beyond = probed .used .prev-used .beyond;
         marks = marks-cleared (probed .used)

@@ -10,9 +10,10 @@ use Rattle.walking.specs.Promises.{WalkRoom, WalkMade}
 use Rattle.area.specs.Area.{labelIn, AreaAsked, AreaMarked}
 use Rattle.flow.specs.declared.Flow.{Flow}
 use Rattle.flow.specs.Answer.{AreaOf, FlowAsked, FlowAnswer}
-use Rattle.labelling.specs.Labels.{Scratch, scratchOf}
-use Rattle.labelling.specs.Probing.{Beyond, Used, ProbeAsked, Shown, Probed}
-use Rattle.labelling.proofs.Scratches.{beyond-cleared}
+use Rattle.searching.specs.Searching.{Scratch, scratchOf}
+use Rattle.searching.specs.Probing.{Beyond, Used, ProbeAsked, Shown, Probed, GateProbed}
+use Rattle.searching.proofs.Scratches.{beyond-cleared}
+use Rattle.flow.specs.declared.Flow.the-variants.{Paths}
 
 -- a K-bounded drawing, where K is at most 6
 drawn-six : {inputs nodes k : ℕ} {fan count : List ℕ} → Drawn inputs nodes k fan count → k ≤ 6 → Drawn inputs nodes 6 fan count
@@ -121,21 +122,28 @@ module _ {inputs nodes k : ℕ} {fan count order : List ℕ} {t p : ℕ} {labels
         pub probed : {r : Flow} {cut′ : List ℕ} →
             FlowAnswer inputs nodes k fan count area ends (s .next) (s .prev) (s .ins) (s .outs) (s .parent) cut r next prev ins outs parent cut′ →
             Probed inputs nodes k fan count t labels s cut r (scratchOf walked met deep area ends next prev ins outs parent) cut′
-        probed (FlowAnswer.paths e evidence n q i o f same) =
+        probed (FlowAnswer.paths e evidence links n q i o f same) =
             record {
               shown = Shown.paths e (evidence (labelIn labels) t area-of) same;
+              links = λ _. links;
               used = use-made (record { size = next-size; beyond = n }) (record { size = prev-size; beyond = q })
                   (beyond-cleared nodes (s .ins) in-size i) (beyond-cleared nodes (s .outs) out-size o) (beyond-cleared nodes (s .parent) parent-size f);
               in-clear = i;
               out-clear = o;
               parent-clear = f;
             }
-        probed (FlowAnswer.cut size list e count-is least n q i o f same) =
+        probed {r = r} (FlowAnswer.cut size list e count-is least n q i o f same) =
             record {
               shown = Shown.least size list e count-is (least (labelIn labels) t area-of) same;
+              links = λ (g : r ≡ Paths). absurd (let z : _≡_ {A = ℕ} 0 1 = cc in omega arith);
               used = use-made (beyond-cleared nodes (s .next) next-size n) (beyond-cleared nodes (s .prev) prev-size q)
                   (beyond-cleared nodes (s .ins) in-size i) (beyond-cleared nodes (s .outs) out-size o) (beyond-cleared nodes (s .parent) parent-size f);
               in-clear = i;
               out-clear = o;
               parent-clear = f;
             }
+
+        pub gate-probed : {r : Flow} {cut′ : List ℕ} →
+            FlowAnswer inputs nodes k fan count area ends (s .next) (s .prev) (s .ins) (s .outs) (s .parent) cut r next prev ins outs parent cut′ →
+            GateProbed inputs nodes k fan count t labels s cut r (scratchOf walked met deep area ends next prev ins outs parent) cut′
+        gate-probed answer = record { probed = probed answer; walk = walk; marks = marked; answer = answer }

@@ -1,7 +1,31 @@
 // Scratch is left at 0: a mark or a link a node.
-use crate::storing::clear_bytes;
-use crate::storing::clear_words;
-ghost use Rattle.labelling.specs.Probing.{FiveLong, FiveCleared};
+ghost use Prim.Native.Nat.{_≤_};
+ghost use mathlib.Core.Path.{_≡_};
+ghost use lib.ListN.{length, replicate};
+ghost use lib.Seq.{sets};
+ghost use Rattle.searching.specs.Probing.{FiveLong, FiveCleared};
+
+pub fn clear_words(words: &mut [u16], many: usize)
+    requires { ⌜ many ≤ length (now words) ⌝ }
+    ensures { λ _. ⌜ now (words .exit) ≡ sets (now (words .entry)) 0 (replicate many 0) ⌝ }
+{
+    let mut i = 0;
+    while i < many {
+        words[i] = 0;
+        i += 1;
+    }
+}
+
+pub fn clear_bytes(bytes: &mut [u8], many: usize)
+    requires { ⌜ many ≤ length (now bytes) ⌝ }
+    ensures { λ _. ⌜ now (bytes .exit) ≡ sets (now (bytes .entry)) 0 (replicate many 0) ⌝ }
+{
+    let mut i = 0;
+    while i < many {
+        bytes[i] = 0;
+        i += 1;
+    }
+}
 
 pub fn clear_marks(
     nodes: usize,

@@ -1,9 +1,9 @@
 -- `clear_links` meets its contract.
 use denote.Ref.{now}
-use Rattle.labelling.proofs.Scratches.{zeros-clear}
+use Rattle.searching.proofs.Scratches.{zeros-clear}
 use borrow.Author.Needs.{needs}
-use Rattle.labelling.proofs.scratch.clear_links.Statement.{statement}
-use Rattle.labelling.proofs.scratch.clear_links.Tie as tie
+use Rattle.searching.proofs.scratch.clear_links.Statement.{statement}
+use Rattle.searching.proofs.scratch.clear_links.Tie as tie
 
 clear-words-requires : tie.Need-clear-words-requires
 clear-words-requires c κs = search needs

@@ -1,19 +1,18 @@
--- What labelling a drawing asks and leaves, and what finding a gate's evidence does.
+-- What the search behind a gate is lent, and what finding a gate's evidence asks and leaves.
 use Prim.Native.Nat.{ℕ, _+_, _-_, _≤_, _<_}
 use mathlib.Core.Path.{_≡_}
 use mathlib.Core.List.{List}
 use lib.ListN.{length, take, drop}
-use Rattle.theory.specs.Net.{Gate}
+use Rattle.theory.specs.Net.{Net, Gate}
+use Rattle.theory.specs.Cover.{Label}
 use Rattle.theory.specs.Evidence.{Evidence, Owes}
 use Rattle.drawing.specs.Table.{netIn}
 use Rattle.walking.specs.Arrays.{Drawn, Ordered}
 use Rattle.area.specs.Area.{labelIn}
 use Rattle.flow.specs.Answer.{cleared}
-use Rattle.flow.specs.Paths.{pathsIn}
-use Rattle.labelling.specs.Labelling.{TrueLabel}
-use Rattle.labelling.specs.Storing.{Room, LabellingMade}
+use Rattle.flow.specs.Paths.{pathsIn, LinksIn}
 
--- A drawing with K from 2 to 6, and its order.
+-- A drawing with K of at most 6, and its order.
 pub record DrawnOrdered (inputs nodes k : ℕ) (fan count order : List ℕ) : Type 0 where
   pub drawn : Drawn inputs nodes k fan count
   pub order-long : nodes ≤ inputs + length order
@@ -76,16 +75,9 @@ pub record LinksCleared (nodes : ℕ) (s s′ : Scratch) : Type 0 where
   pub next-clear : s′ .next ≡ cleared nodes (s .next)
   pub prev-clear : s′ .prev ≡ cleared nodes (s .prev)
 
-pub record LabelAsked (inputs nodes k : ℕ) (fan count order labels leaves sizes : List ℕ) (s : Scratch) : Type 0 where
-  pub drawing : DrawnOrdered inputs nodes k fan count order
-  pub room : Room nodes labels leaves sizes
-  pub scratch : ScratchLong nodes s
-
--- Every gate has its label and the mapper's cut, and all scratch is left at 0.
-pub record LabelsMade (inputs nodes k : ℕ) (fan count labels₀ leaves₀ sizes₀ : List ℕ) (s₀ : Scratch) (labels leaves sizes : List ℕ) (s : Scratch) : Type 0 where
-  pub made : LabellingMade (netIn inputs nodes fan count) k labels₀ leaves₀ sizes₀ labels leaves sizes
-  pub marks : MarksCleared nodes s₀ s
-  pub links : LinksCleared nodes s₀ s
+-- the label of v, whatever the outputs are
+abbrev pub TrueLabel : Net → (k v label : ℕ) → Type 0
+TrueLabel net k v label = (outputs : List ℕ) → Label net k outputs v label
 
 -- A gate that owes evidence, by the true labels.
 pub record EvidenceAsked (inputs nodes k : ℕ) (fan count order labels : List ℕ) (t : ℕ) (s : Scratch) : Type 0 where
@@ -96,9 +88,10 @@ pub record EvidenceAsked (inputs nodes k : ℕ) (fan count order labels : List �
   pub owes : Owes (netIn inputs nodes fan count) (labelIn labels) t
   pub scratch : ScratchLong nodes s
 
--- Evidence stands in the links, and all other scratch is left at 0.
+-- Evidence stands in the links and nothing else does, and all other scratch is left at 0.
 pub record EvidenceFound (inputs nodes k : ℕ) (fan count labels : List ℕ) (t : ℕ) (s₀ s : Scratch) : Type 0 where
   pub evidence : Evidence (netIn inputs nodes fan count) k (labelIn labels) t (pathsIn inputs nodes (s .next) (s .prev))
+  pub links : LinksIn (netIn inputs nodes fan count) nodes (s .next) (s .prev)
   pub next-beyond : drop nodes (s .next) ≡ drop nodes (s₀ .next)
   pub prev-beyond : drop nodes (s .prev) ≡ drop nodes (s₀ .prev)
   pub marks : MarksCleared nodes s₀ s

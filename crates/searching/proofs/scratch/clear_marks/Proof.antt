@@ -1,9 +1,9 @@
 -- `clear_marks` meets its contract.
 use denote.Ref.{now}
-use Rattle.labelling.proofs.Scratches.{zeros-clear}
+use Rattle.searching.proofs.Scratches.{zeros-clear}
 use borrow.Author.Needs.{needs}
-use Rattle.labelling.proofs.scratch.clear_marks.Statement.{statement}
-use Rattle.labelling.proofs.scratch.clear_marks.Tie as tie
+use Rattle.searching.proofs.scratch.clear_marks.Statement.{statement}
+use Rattle.searching.proofs.scratch.clear_marks.Tie as tie
 
 clear-bytes-requires : tie.Need-clear-bytes-requires
 clear-bytes-requires c κs = search needs

@@ -6,8 +6,8 @@ use mathlib.Core.List.{List, _++_}
 use lib.ListN.{length, drop, replicate, length-replicate}
 use lib.Seq.{sets, sets-eq, drop-at}
 use Rattle.flow.specs.Answer.{cleared}
-use Rattle.labelling.specs.Labels.{Scratch, ScratchLong, MarksCleared, LinksCleared}
-use Rattle.labelling.specs.Probing.{Beyond, Used, FiveLong, FiveCleared}
+use Rattle.searching.specs.Searching.{Scratch, ScratchLong, MarksCleared, LinksCleared}
+use Rattle.searching.specs.Probing.{Beyond, Used, FiveLong, FiveCleared}
 
 -- zeros stored one after the other
 pub zeros-clear : (n : ℕ) (l : List ℕ) → n ≤ length l → {l′ : List ℕ} → l′ ≡ sets l 0 (replicate n 0) → l′ ≡ cleared n l

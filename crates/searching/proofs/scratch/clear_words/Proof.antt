@@ -7,8 +7,8 @@ use lib.ListN.{length, set, replicate, length-set}
 use lib.Seq.{sets}
 use denote.Ref.{now}
 use Rattle.drawing.proofs.Stores.{sets-of-same}
-use Rattle.labelling.proofs.storing.clear_words.Statement.{statement}
-use Rattle.labelling.proofs.storing.clear_words.Tie as tie
+use Rattle.searching.proofs.scratch.clear_words.Statement.{statement}
+use Rattle.searching.proofs.scratch.clear_words.Tie as tie
 
 abbrev Inv-loop : tie.InvT-loop
 Inv-loop words₀ many i₀ words i = (i ≤ many) × (length words ≡ length words₀) × (words ≡ sets words₀ 0 (replicate i 0))

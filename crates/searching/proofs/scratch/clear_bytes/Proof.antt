@@ -7,8 +7,8 @@ use lib.ListN.{length, set, replicate, length-set}
 use lib.Seq.{sets}
 use denote.Ref.{now}
 use Rattle.drawing.proofs.Stores.{sets-of-same}
-use Rattle.labelling.proofs.storing.clear_bytes.Statement.{statement}
-use Rattle.labelling.proofs.storing.clear_bytes.Tie as tie
+use Rattle.searching.proofs.scratch.clear_bytes.Statement.{statement}
+use Rattle.searching.proofs.scratch.clear_bytes.Tie as tie
 
 abbrev Inv-loop : tie.InvT-loop
 Inv-loop bytes₀ many i₀ bytes i = (i ≤ many) × (length bytes ≡ length bytes₀) × (bytes ≡ sets bytes₀ 0 (replicate i 0))

@@ -3,8 +3,8 @@ use drawing::CutSize;
 use drawing::Label;
 use drawing::Node;
 use flow::Flow;
-ghost use Rattle.labelling.specs.Labels.{scratchOf};
-ghost use Rattle.labelling.specs.Probing.{ProbeAsked, Probed};
+ghost use Rattle.searching.specs.Searching.{scratchOf};
+ghost use Rattle.searching.specs.Probing.{ProbeAsked, GateProbed};
 
 // `cut` has room for six leaves. The walk has no leaves, so any list will do for it.
 pub fn probe_gate(
@@ -30,7 +30,7 @@ pub fn probe_gate(
     cut: &mut [u16],
 ) -> Flow
     requires { ⌜ ProbeAsked inputs nodes (k .leaves) (now fan) (now count) (now order) (gate .id) (p .depth) (now labels) (scratchOf (now walked) (now met) (now deep) (now area) (now ends) (now next) (now prev) (now ins) (now outs) (now parent)) (now cut) ⌝ }
-    ensures { λ r. ⌜ Probed inputs nodes (k .leaves) (now (fan .entry)) (now (count .entry)) (gate .id) (now (labels .entry)) (scratchOf (now (walked .entry)) (now (met .entry)) (now (deep .entry)) (now (area .entry)) (now (ends .entry)) (now (next .entry)) (now (prev .entry)) (now (ins .entry)) (now (outs .entry)) (now (parent .entry))) (now (cut .entry)) r (scratchOf (now (walked .exit)) (now (met .exit)) (now (deep .exit)) (now (area .exit)) (now (ends .exit)) (now (next .exit)) (now (prev .exit)) (now (ins .exit)) (now (outs .exit)) (now (parent .exit))) (now (cut .exit)) ⌝ }
+    ensures { λ r. ⌜ GateProbed inputs nodes (k .leaves) (now (fan .entry)) (now (count .entry)) (gate .id) (now (labels .entry)) (scratchOf (now (walked .entry)) (now (met .entry)) (now (deep .entry)) (now (area .entry)) (now (ends .entry)) (now (next .entry)) (now (prev .entry)) (now (ins .entry)) (now (outs .entry)) (now (parent .entry))) (now (cut .entry)) r (scratchOf (now (walked .exit)) (now (met .exit)) (now (deep .exit)) (now (area .exit)) (now (ends .exit)) (now (next .exit)) (now (prev .exit)) (now (ins .exit)) (now (outs .exit)) (now (parent .exit))) (now (cut .exit)) ⌝ }
 {
     let none = CutSize { leaves: 0 };
     walking::walk(

@@ -1,19 +1,20 @@
 -- A gate's probe: behind the gate and outside D, does a cut lie, or do K + 1 paths run? And what the probe leaves of the scratch.
 use Prim.Native.Nat.{ℕ, _≤_}
 use mathlib.Core.Path.{_≡_}
-use mathlib.Core.List.{List}
+use mathlib.Core.List.{List, []}
 use lib.ListN.{length, drop}
 use lib.Seq.{sets}
 use Rattle.theory.specs.Net.{Net, Gate}
 use Rattle.theory.specs.Evidence.{peak, Evidence, LeastCut, NeverFalls}
 use Rattle.drawing.specs.Table.{netIn}
 use Rattle.drawing.specs.declared.CutSize.{CutSize}
-use Rattle.area.specs.Area.{labelIn}
+use Rattle.walking.specs.Promises.{WalkMade}
+use Rattle.area.specs.Area.{labelIn, AreaMarked}
 use Rattle.flow.specs.declared.Flow.{Flow}
 use Rattle.flow.specs.declared.Flow.the-variants.{Paths, Cut}
-use Rattle.flow.specs.Answer.{cleared}
-use Rattle.flow.specs.Paths.{pathsIn}
-use Rattle.labelling.specs.Labels.{DrawnOrdered, Scratch, ScratchLong}
+use Rattle.flow.specs.Answer.{cleared, FlowAnswer}
+use Rattle.flow.specs.Paths.{pathsIn, LinksIn}
+use Rattle.searching.specs.Searching.{DrawnOrdered, Scratch, ScratchLong}
 
 -- the entries beyond the nodes are as before
 pub record Beyond (nodes : ℕ) (before after : List ℕ) : Type 0 where
@@ -65,7 +66,15 @@ pub data Shown (net : Net) (k : ℕ) (lab : ℕ → ℕ) (t : ℕ) (links : List
 
 pub record Probed (inputs nodes k : ℕ) (fan count : List ℕ) (t : ℕ) (labels : List ℕ) (s₀ : Scratch) (cut₀ : List ℕ) (r : Flow) (s : Scratch) (cut : List ℕ) : Type 0 where
   pub shown : Shown (netIn inputs nodes fan count) k (labelIn labels) t (pathsIn inputs nodes (s .next) (s .prev)) cut₀ r cut
+  pub links : r ≡ Paths → LinksIn (netIn inputs nodes fan count) nodes (s .next) (s .prev)
   pub used : Used nodes s₀ s
   pub in-clear : s .ins ≡ cleared nodes (s₀ .ins)
   pub out-clear : s .outs ≡ cleared nodes (s₀ .outs)
   pub parent-clear : s .parent ≡ cleared nodes (s₀ .parent)
+
+-- All that the probe leaves: beside that, the marks of what lies behind the gate, of D, the area and its ends, and the flow's answer on them.
+pub record GateProbed (inputs nodes k : ℕ) (fan count : List ℕ) (t : ℕ) (labels : List ℕ) (s₀ : Scratch) (cut₀ : List ℕ) (r : Flow) (s : Scratch) (cut : List ℕ) : Type 0 where
+  pub probed : Probed inputs nodes k fan count t labels s₀ cut₀ r s cut
+  pub walk : WalkMade (netIn inputs nodes fan count) [] t (s₀ .walked) (s₀ .met) (s .walked) (s .met)
+  pub marks : AreaMarked (netIn inputs nodes fan count) (labelIn labels) t (s₀ .deep) (s .deep) (s₀ .area) (s .area) (s₀ .ends) (s .ends)
+  pub answer : FlowAnswer inputs nodes k fan count (s .area) (s .ends) (s₀ .next) (s₀ .prev) (s₀ .ins) (s₀ .outs) (s₀ .parent) cut₀ r (s .next) (s .prev) (s .ins) (s .outs) (s .parent) cut
