@@ -11,19 +11,19 @@ use Rattle.drawing.specs.declared.Head.{Head}
 use Rattle.drawing.specs.Table.{netIn}
 use Rattle.walking.proofs.Orders.{drawn-ranked}
 use Rattle.area.specs.Area.{labelIn}
-use Rattle.labelling.specs.Labels.{Scratch, scratchOf}
+use Rattle.searching.specs.Searching.{Scratch, scratchOf, ScratchLong}
 use Rattle.labelling.proofs.Places.{cut-length}
 use Rattle.sheet.specs.declared.Form.{Form}
 use Rattle.sheet.specs.Sheet.{Line, noLine}
 use Rattle.sheet.specs.Encoding.{narrow}
 use Rattle.sheet.specs.Longest.{sheetMost}
 use Rattle.sheet.proofs.Longest.{most-grows}
-use Rattle.mapping.specs.declared.gates.Mapping.{Mapping}
+use Rattle.packing.specs.declared.Mapping.{Mapping}
+use Rattle.packing.specs.Tables.{Made, madeOf, MapAsked, MappingMade}
+use Rattle.packing.proofs.StageOne.{all-labelled, cut-made, root-gate}
+use Rattle.writing.specs.Sheets.{SheetAsked, sheetIn, SheetWritten}
 use Rattle.mapping.specs.declared.Reply.the-variants.{Mapped}
-use Rattle.mapping.specs.Tables.{Made, madeOf, MapAsked, MappingMade}
-use Rattle.mapping.specs.Sheets.{SheetAsked, sheetIn, SheetWritten, DrawingAsked, DrawingMapped, TakenAsked, TakenMapped}
-use Rattle.mapping.proofs.LinesWritten.{SameSizes, still-long}
-use Rattle.mapping.proofs.StageOne.{all-labelled, cut-made, root-gate}
+use Rattle.mapping.specs.Sheets.{DrawingAsked, DrawingMapped, TakenAsked, TakenMapped}
 use Rattle.mapping.proofs.SheetsMade.{LineSays, Standing, mappers-sheet, luts-counted, luts-few}
 
 -- What stage one leaves stands in the arrays
@@ -52,6 +52,35 @@ module _ {inputs nodes k : ℕ} {fan count rows order outputs : List ℕ} {numbe
         gates = gates;
         each = each;
       }
+
+-- Scratch of the same lengths
+
+pub record SameSizes (s s′ : Scratch) : Type 0 where
+  pub walked : length (s′ .walked) ≡ length (s .walked)
+  pub met : length (s′ .met) ≡ length (s .met)
+  pub deep : length (s′ .deep) ≡ length (s .deep)
+  pub area : length (s′ .area) ≡ length (s .area)
+  pub ends : length (s′ .ends) ≡ length (s .ends)
+  pub next : length (s′ .next) ≡ length (s .next)
+  pub prev : length (s′ .prev) ≡ length (s .prev)
+  pub ins : length (s′ .ins) ≡ length (s .ins)
+  pub outs : length (s′ .outs) ≡ length (s .outs)
+  pub parent : length (s′ .parent) ≡ length (s .parent)
+
+still-long : {nodes : ℕ} {s s′ : Scratch} → ScratchLong nodes s → SameSizes s s′ → ScratchLong nodes s′
+still-long long same =
+    record {
+      walked-long = omega (arith, long .walked-long, same .walked);
+      met-long = omega (arith, long .met-long, same .met);
+      deep-long = omega (arith, long .deep-long, same .deep);
+      area-long = omega (arith, long .area-long, same .area);
+      ends-long = omega (arith, long .ends-long, same .ends);
+      next-long = omega (arith, long .next-long, same .next);
+      prev-long = omega (arith, long .prev-long, same .prev);
+      in-long = omega (arith, long .in-long, same .ins);
+      out-long = omega (arith, long .out-long, same .outs);
+      parent-long = omega (arith, long .parent-long, same .parent);
+    }
 
 module _ {form : Form} {inputs nodes k : ℕ} {fan count rows order outputs : List ℕ} {number : ℕ} {m : Made} {s : Scratch} {path sheet : List ℕ}
     (asked : DrawingAsked form inputs nodes k fan count rows order outputs number m s path sheet)

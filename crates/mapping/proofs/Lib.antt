@@ -1,10 +1,3 @@
-pub mod LutsWritten
-pub mod PathsWritten
-pub mod LinesWritten
-pub mod TablesStored
-pub mod StageOne
-pub mod SheetsWritten
 pub mod SheetsMade
 pub mod DrawingsMapped
 pub mod Mapped
-pub mod OneMapping

@@ -4,8 +4,8 @@ use native.Mathlib.Omega.{arith}
 use mathlib.Core.Path.{_≡_, refl, ap, sym, subst, _∙_}
 use mathlib.Core.Bool.{true}
 use borrow.Author.Tests.{le-leb}
-use mathlib.Core.List.{List, map, List·Memᴰ}
-use lib.ListN.{length, take}
+use mathlib.Core.List.{List, _++_, map, List·Memᴰ}
+use lib.ListN.{length, take, drop}
 use Rattle.theory.specs.Net.{Net, Gate}
 use Rattle.theory.specs.Values.{resultAt, rowOf}
 use Rattle.theory.specs.Lookup.{ConeTable}
@@ -148,9 +148,14 @@ module _ {fan₀ count₀ rows₀ outputs₀ order₀ marks₀ s fan count rows 
 
 -- Two replies that the promise allows are equal, and so is the buffer, but for the evidence of a sheet and what follows from it, its length.
 
-pub data OneReply (s : List ℕ) (r q : Reply) (a b : List ℕ) : Type 0 where
-  same : r ≡ q → a ≡ b → OneReply s r q a b
-  sheets : (x y : Sheet) → MapsTo s x → MapsTo s y → r ≡ Mapped (length (encode narrow x)) → q ≡ Mapped (length (encode narrow y)) → OneReply s r q a b
+-- the buffer with a sheet at its front
+abbrev pub withSheet : Sheet → List ℕ → List ℕ
+withSheet x before = encode narrow x ++ drop (length (encode narrow x)) before
+
+pub data OneReply (s before : List ℕ) (r q : Reply) (a b : List ℕ) : Type 0 where
+  same : r ≡ q → a ≡ b → OneReply s before r q a b
+  sheets : (x y : Sheet) → MapsTo s x → MapsTo s y → r ≡ Mapped (length (encode narrow x)) → q ≡ Mapped (length (encode narrow y)) →
+      a ≡ withSheet x before → b ≡ withSheet y before → OneReply s before r q a b
 
 refusal-of : Taking → Reply
 refusal-of (taking.Taken h n) = Room
@@ -167,7 +172,7 @@ kind-of taking.Lent = 3
 apart : {s : List ℕ} {t u : Taking} {A : Type 0} → Says s t → Says s u → (kind-of t ≡ kind-of u → ⊥) → A
 apart t u differ = absurd (differ (ap kind-of (says-one t u)))
 
-pub maps-one : {s before : List ℕ} {r q : Reply} {a b : List ℕ} → Maps s before r a → Maps s before q b → OneReply s r q a b
+pub maps-one : {s before : List ℕ} {r q : Reply} {a b : List ℕ} → Maps s before r a → Maps s before q b → OneReply s before r q a b
 unfolding refusal-of kind-of
 maps-one (Maps.refused x r e) (Maps.refused y q f) = OneReply.same (r ∙ ap refusal-of (says-one x y) ∙ sym q) (e ∙ sym f)
 maps-one (Maps.refused x r e) (Maps.loop y q f) = apart x y (λ z. omega arith)
@@ -184,4 +189,4 @@ maps-one (Maps.room x short r e) (Maps.mapped sheet y long to q f) = absurd (ome
 maps-one (Maps.mapped sheet x long to r e) (Maps.refused y q f) = apart x y (λ z. omega arith)
 maps-one (Maps.mapped sheet x long to r e) (Maps.loop y q f) = apart x y (λ z. omega arith)
 maps-one (Maps.mapped sheet x long to r e) (Maps.room y short q f) = absurd (omega arith)
-maps-one (Maps.mapped sheet x long to r e) (Maps.mapped sheet′ y long′ to′ q f) = OneReply.sheets sheet sheet′ to to′ r q
+maps-one (Maps.mapped sheet x long to r e) (Maps.mapped sheet′ y long′ to′ q f) = OneReply.sheets sheet sheet′ to to′ r q e f

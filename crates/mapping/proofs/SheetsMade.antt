@@ -15,12 +15,12 @@ use Rattle.theory.specs.Lists.{Rising, greatest}
 use Rattle.theory.specs.Sound.{Bounded}
 use Rattle.theory.specs.Cover.{Label}
 use Rattle.theory.specs.Values.{bit}
-use Rattle.theory.specs.Evidence.{TruePath, Run, Evidence, Owes, MappersCut}
+use Rattle.theory.specs.Evidence.{Evidence, MappersCut}
 use Rattle.theory.specs.Lookup.{ConeTable}
 use Rattle.theory.proofs.Walks.{met-node}
 use Rattle.theory.proofs.Members.{rising-tail, rising-above}
 use Rattle.theory.proofs.Picks.{map-agree}
-use Rattle.theory.proofs.Rules.{peak-agrees, d-agrees}
+use Rattle.theory.proofs.Rules.{evidence-agrees, owes-agrees}
 use Rattle.drawing.specs.Table.{netIn, tablesIn}
 use Rattle.area.specs.Area.{labelIn}
 use Rattle.flow.specs.Numbers.{those}
@@ -29,42 +29,17 @@ use Rattle.flow.proofs.Listing.{those-count}
 use Rattle.walking.specs.Arrays.{Marks}
 use Rattle.walking.proofs.Entries.{fanins-in}
 use Rattle.labelling.specs.Storing.{cutIn}
-use Rattle.labelling.proofs.Agreeing.{Agree, agree-back, outside-agrees, mappers-cut-agrees}
+use Rattle.labelling.proofs.Agreeing.{Agree, agree-back, mappers-cut-agrees}
 use Rattle.covering.specs.Covers.{Needed, CoverMade, isRoot, lutCount}
 use Rattle.sheet.specs.Sheet.{Line, noLine}
 use Rattle.sheet.specs.Rules.{lineOfNode, labelsOf, isListed, leavesListed, tableListed, PathsKept}
 use Rattle.keeping.specs.Right.{Roots}
 use Rattle.keeping.specs.Mappers.{SheetWith, MappersSheet}
-use Rattle.mapping.specs.Luts.{isMarked, lutIn, lutsBelow}
-use Rattle.mapping.specs.Lines.{Labelled}
-use Rattle.mapping.specs.Tables.{TableIs}
-use Rattle.mapping.proofs.StageOne.{needed-gate}
+use Rattle.packing.specs.Tables.{TableIs, Labelled}
+use Rattle.packing.proofs.StageOne.{needed-gate}
+use Rattle.writing.specs.Luts.{isMarked, lutIn, lutsBelow}
 
 -- Evidence and what is due rest on the labels behind the gate, and on its own
-
-module _ {net : Net} {t : ℕ} {lab mab : ℕ → ℕ} (agree : Agree net t lab mab) where
-  run-agrees : {path : List ℕ} → Run net lab t path → Run net mab t path
-  run-agrees (Run.last member feeds) = Run.last (d-agrees agree member) feeds
-  run-agrees (Run.more feeds run) = Run.more feeds (run-agrees run)
-
-  path-agrees : {path : List ℕ} → TruePath net lab t path → TruePath net mab t path
-  path-agrees p =
-      record {
-        first = p .first;
-        rest = p .rest;
-        whole = p .whole;
-        starts = p .starts;
-        runs = run-agrees (p .runs);
-        behind = p .behind;
-        outside = outside-agrees agree (p .outside);
-      }
-
-  evidence-agrees : {k : ℕ} {paths : List (List ℕ)} → Evidence net k lab t paths → Evidence net k mab t paths
-  evidence-agrees e = record { count = e .count; each = λ path among. path-agrees (e .each path among); apart = e .apart }
-
-  owes-agrees : lab t ≡ mab t → Owes net lab t → Owes net mab t
-  owes-agrees same owes =
-      record { above = sym same ∙ owes .above ∙ ap suc (peak-agrees agree); some = omega (arith, owes .some, peak-agrees agree) }
 
 paths-agree : {net : Net} {t : ℕ} {lab mab : ℕ → ℕ} → Agree net t lab mab → lab t ≡ mab t → {k : ℕ} {paths : List (List ℕ)} →
     PathsKept net k lab t paths → PathsKept net k mab t paths

@@ -1,8 +1,4 @@
 // The mapper: a gate table's bytes in, the mapping sheet's bytes out.
-pub mod gates;
-mod lines;
-mod luts;
-mod paths;
 mod sheets;
 
 use crate::sheets::map_drawing;

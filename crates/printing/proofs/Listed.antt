@@ -14,8 +14,8 @@ use Rattle.walking.proofs.Entries.{member-of-part}
 use Rattle.area.specs.Area.{labelIn}
 use Rattle.flow.specs.Numbers.{those}
 use Rattle.flow.proofs.Sums.{those-hold}
+use Rattle.searching.specs.Searching.{Scratch, scratchOf}
 use Rattle.labelling.specs.Storing.{cutIn}
-use Rattle.labelling.specs.Labels.{Scratch, scratchOf}
 use Rattle.sheet.specs.Sheet.{Line, Sheet, lineOf, noLine}
 use Rattle.sheet.specs.Rules.{from, labelsOf}
 use Rattle.listing.specs.Text.{Lut, Mapping as Printed, listingOf}
@@ -23,11 +23,11 @@ use Rattle.listing.specs.Puts.{Wrote}
 use Rattle.listing.specs.Arrays.{Arrays, arraysOf, lutAt, outputAt, marked, markedFrom, lutsIn, outputsIn, mappingIn, Held, room}
 use Rattle.keeping.specs.Mappers.{SettledSheet}
 use Rattle.keeping.specs.Printed.{listedLut, listedOutput, mappingOf}
-use Rattle.mapping.specs.declared.gates.Mapping.{Mapping}
-use Rattle.mapping.specs.Luts.{isMarked, lutIn, lutsBelow}
-use Rattle.mapping.specs.Tables.{Made, madeOf, MapAsked, MappingMade}
-use Rattle.mapping.specs.Sheets.{sheetIn}
-use Rattle.mapping.proofs.StageOne.{all-labelled}
+use Rattle.packing.specs.declared.Mapping.{Mapping}
+use Rattle.packing.specs.Tables.{Made, madeOf, MapAsked, MappingMade}
+use Rattle.packing.proofs.StageOne.{all-labelled}
+use Rattle.writing.specs.Luts.{isMarked, lutIn, lutsBelow}
+use Rattle.writing.specs.Sheets.{sheetIn}
 use Rattle.mapping.proofs.SheetsMade.{Standing, sheet-with, label-same, luts-counted}
 use Rattle.mapping.proofs.DrawingsMapped.{standing}
 use Rattle.printing.specs.Lists.{ListAsked, TakenListed}

@@ -1,18 +1,16 @@
 // What the programs print, from bytes to text in a lent buffer.
-mod numbers;
-
-use crate::numbers::number_of;
-use crate::numbers::number_of_fault;
-use crate::numbers::place_of;
-use crate::numbers::place_of_fault;
 use drawing::Head;
 use drawing::Node;
+use drawing::refusals::number_of;
+use drawing::refusals::place_of;
 use inspecting::Inspection;
 use inspecting::inspect;
 use listing::list_mapping;
 use listing::write_accepted;
 use listing::write_refused;
-use mapping::gates::map_gates;
+use packing::map_gates;
+use sheet::faults::number_of_fault;
+use sheet::faults::place_of_fault;
 use taking::Taking;
 use taking::take_table;
 ghost use Prim.Native.Nat.{_≤_};

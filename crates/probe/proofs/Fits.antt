@@ -14,8 +14,9 @@ use Rattle.walking.specs.Listing.{Tells}
 use Rattle.walking.specs.Promises.{OrderRoom, OrderMade, WalkRoom}
 use Rattle.walking.proofs.Listings.{drawn-six}
 use Rattle.walking.proofs.Outcomes.{order-taken}
+use Rattle.searching.specs.Searching.{Scratch, ScratchLong}
 use Rattle.labelling.specs.Storing.{Room}
-use Rattle.labelling.specs.Labels.{Scratch, ScratchLong, LabelAsked}
+use Rattle.labelling.specs.Gates.{LabelAsked}
 use Rattle.probe.specs.Arrays.{CutRoom, LabelRoom}
 
 -- a reply that is told stands for itself

@@ -12,9 +12,19 @@ use Rattle.drawing.specs.declared.Node.{Node}
 use Rattle.walking.proofs.Orders.{drawn-ranked}
 use Rattle.walking.proofs.Outcomes.{order-taken}
 use Rattle.walking.proofs.Unique.{order-one, cut-one}
-use Rattle.labelling.specs.Labels.{Scratch}
+use Rattle.searching.specs.Searching.{Scratch}
+use Rattle.drawing.specs.Reading.{Arrays}
+use Rattle.taking.proofs.Takings.{one-taking}
 use Rattle.labelling.proofs.One.{OneLabelling, labels-made-one}
+use Rattle.probe.specs.Words.{takingWord, TakesAs}
 use Rattle.probe.specs.Arrays.{orderWord, bit, OrdersAs, CutsAs, LabelRoom, LabelledAs, LabelsAs}
+
+pub takes-one : {before : Arrays} {order₀ marks₀ s : List ℕ} {w w′ : ℕ} {after after′ : Arrays} {order marks order′ marks′ : List ℕ} →
+    TakesAs before order₀ marks₀ s w after order marks → TakesAs before order₀ marks₀ s w′ after′ order′ marks′ →
+    (w ≡ w′) × ((after ≡ after′) × ((order ≡ order′) × (marks ≡ marks′)))
+takes-one a b =
+    let same = one-taking (a .takes) (b .takes) in
+    (a .reply ∙ ap takingWord (same .0) ∙ sym (b .reply), (same .1, (same .2, same .3)))
 
 pub orders-one : {inputs nodes : ℕ} {fan count order₀ marks₀ : List ℕ} {w w′ : ℕ} {order marks order′ marks′ : List ℕ} →
     OrdersAs inputs nodes fan count order₀ marks₀ w order marks → OrdersAs inputs nodes fan count order₀ marks₀ w′ order′ marks′ →

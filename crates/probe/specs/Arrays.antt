@@ -11,8 +11,9 @@ use Rattle.walking.specs.declared.Ordering.{Ordering}
 use Rattle.walking.specs.declared.Ordering.the-variants.{Whole, LoopAt}
 use Rattle.walking.specs.Arrays.{Drawn}
 use Rattle.walking.specs.Promises.{OrderRoom, OrderMade, CutRuled}
+use Rattle.searching.specs.Searching.{Scratch, ScratchLong}
 use Rattle.labelling.specs.Storing.{Room}
-use Rattle.labelling.specs.Labels.{Scratch, ScratchLong, LabelsMade}
+use Rattle.labelling.specs.Gates.{LabelsMade}
 
 abbrev pub unfitWord : ℕ
 unfitWord = 255 * 4294967296

@@ -5,7 +5,7 @@ use drawing::CutSize;
 use drawing::Node;
 use walking::Ordering;
 ghost use mathlib.Core.Path.{_≡_};
-ghost use Rattle.labelling.specs.Labels.{scratchOf};
+ghost use Rattle.searching.specs.Searching.{scratchOf};
 ghost use Rattle.probe.specs.Arrays.{orderWord, bit, OrdersAs, CutsAs, LabelRoom, LabelledAs, LabelsAs};
 
 fn order_word(made: Ordering) -> u64

@@ -6,37 +6,12 @@ mod rooms;
 use drawing::Head;
 use drawing::Reading;
 use drawing::Refusal;
+use drawing::refusals::number_of;
+use drawing::refusals::place_of;
 use taking::Taking;
 ghost use mathlib.Core.Path.{_≡_};
-ghost use Rattle.drawing.specs.Refusals.{number, place};
 ghost use Rattle.drawing.specs.Reading.{arraysOf};
 ghost use Rattle.probe.specs.Words.{refusalWord, wholeWord, SmallNumbers, ReadsAs, TakesAs};
-
-fn number_of(r: Refusal) -> u64
-    ensures { λ w. ⌜ w ≡ number r ⌝ }
-{
-    match r {
-        Refusal::Torn(_) => 1,
-        Refusal::Tag(_) => 2,
-        Refusal::Length(_) => 3,
-        Refusal::Range(_) => 4,
-        Refusal::Rows(_) => 5,
-        Refusal::Outputs(_) => 6,
-    }
-}
-
-fn place_of(r: Refusal) -> u64
-    ensures { λ w. ⌜ w ≡ place r ⌝ }
-{
-    match r {
-        Refusal::Torn(at) => at as u64,
-        Refusal::Tag(at) => at as u64,
-        Refusal::Length(at) => at as u64,
-        Refusal::Range(at) => at as u64,
-        Refusal::Rows(at) => at as u64,
-        Refusal::Outputs(at) => at as u64,
-    }
-}
 
 fn refusal_word(r: Refusal) -> u64
     ensures { λ w. ⌜ w ≡ refusalWord r ⌝ }

@@ -5,8 +5,8 @@ use drawing::Node;
 ghost use Prim.Native.Nat.{_≤_};
 ghost use Rattle.walking.specs.Listing.{Tells};
 ghost use Rattle.walking.specs.Promises.{OrderRoom};
+ghost use Rattle.searching.specs.Searching.{scratchOf, ScratchLong};
 ghost use Rattle.labelling.specs.Storing.{Room};
-ghost use Rattle.labelling.specs.Labels.{scratchOf, ScratchLong};
 ghost use Rattle.probe.specs.Arrays.{CutRoom, LabelRoom};
 
 pub fn order_fits(

@@ -1,7 +1,7 @@
 -- `list` meets its contract: what is said of the table comes first, and a table taken is listed.
 use native.Mathlib.Omega.{arith}
 use mathlib.Core.Path.{refl}
-use Rattle.mapping.proofs.Mapped.{table-taken, says, never-lent}
+use Rattle.taking.proofs.Judged.{table-taken, says, never-lent}
 use Rattle.printing.specs.Filled.{Filled}
 use Rattle.printing.proofs.Tables.{list-asked, lists-taken, lists-refused, lists-loop}
 use Rattle.printing.proofs.Fronts.{front}

@@ -6,8 +6,8 @@ use Rattle.probe.proofs.refusal_word.Statement.{statement}
 use Rattle.probe.proofs.refusal_word.Tie as tie
 use Rattle.probe.proofs.refusal_word.Reads as reads
 use Rattle.probe.proofs.refusal_word.Lts as lts
-use Rattle.probe.proofs.number_of.Reads as number-of-reads
-use Rattle.probe.proofs.place_of.Reads as place-of-reads
+use Rattle.drawing.proofs.refusals.number_of.Reads as number-of-reads
+use Rattle.drawing.proofs.refusals.place_of.Reads as place-of-reads
 
 -- src/lib.rt:40:9
 number-of-requires : tie.Need-number-of-requires

@@ -1,0 +1,3 @@
+pub mod TablesStored
+pub mod StageOne
+pub mod OneMapping

@@ -1,0 +1,3 @@
+pub mod Luts
+pub mod Lines
+pub mod Sheets
