@@ -3,24 +3,23 @@ use Prim.Native.Nat.{ℕ, _≤_}
 use native.Mathlib.Omega.{arith}
 use mathlib.Core.Path.{_≡_, refl, sym, ap, _∙_, subst}
 use mathlib.Core.List.{List}
-use Rattle.drawing.specs.declared.Refusal.{Refusal}
-use Rattle.drawing.specs.Refusals as table
+use Rattle.theory.specs.Cases.{LowestLoop}
 use Rattle.drawing.specs.Fields.{headK, headI}
 use Rattle.drawing.specs.Table.{netOf, tablesOf}
 use Rattle.drawing.specs.Reading.{found, tableOf, nodesOf}
 use Rattle.sheet.specs.declared.Fault.{Fault}
 use Rattle.sheet.specs.declared.Fault.the-variants as fault
 use Rattle.sheet.specs.Shape as shape
-use Rattle.sheet.specs.Rules.{Rule, Found}
+use Rattle.sheet.specs.Rules.{Rule, Found, ruleNumber, rulePlace}
 use Rattle.keeping.specs.Right.{Roots, Right}
 use Rattle.keeping.proofs.Kept.{kept-is-right}
 use Rattle.inspecting.specs.declared.Inspection.{Inspection}
-use Rattle.inspecting.specs.declared.Inspection.the-variants.{Accepted}
+use Rattle.inspecting.specs.declared.Inspection.the-variants.{Accepted, Refused, Shape}
 use Rattle.inspecting.specs.Inspecting.{Drawable, Inspects, KeepsAll, dueIn, sheetIn, replyOf, number, place}
 use Rattle.inspecting.proofs.Replies.{one-reply, keeps-accepted, accepted-exactly}
-use Rattle.demands.specs.Demands.{drawn, ReadsWhole, SomeLoop, InspectorReplies, Demand-1-inspector, Demand-3-right, Demand-3-accepts}
+use Rattle.demands.specs.Demands.{drawn, ReadsWhole, SomeLoop, IsTaken, InspectorReplies, Demand-1-inspector, Demand-3-right, Demand-3-accepts}
 use Rattle.keeping.proofs.Tables.{inputs-are, bounded, outputs-are-nodes, nodes-are, table-ranked}
-use Rattle.demands.proofs.Mapper.{sound-not-refused, one-refusal, refusal-number, loop-some, whole-free}
+use Rattle.demands.proofs.Mapper.{sound-not-refused, refusal-number, loop-some, loop-lowest, whole-free, free-whole}
 use Rattle.demands.proofs.Roots.{sound-roots}
 
 -- A sheet that keeps the rules is right.
@@ -55,41 +54,75 @@ fault-high (fault.Length at) = omega arith
 fault-high (fault.Range at) = omega arith
 fault-high (fault.Extra at) = omega arith
 
-reply-not-seven : (depth : ℕ) (x : Found) → number (replyOf depth x) ≡ 7 → ⊥
-reply-not-seven depth Found.none e = omega arith
-reply-not-seven depth (Found.broken (Rule.cut gate leaves)) e = omega arith
-reply-not-seven depth (Found.broken (Rule.label gate)) e = omega arith
-reply-not-seven depth (Found.broken (Rule.paths gate)) e = omega arith
-reply-not-seven depth (Found.broken (Rule.function lut)) e = omega arith
-reply-not-seven depth (Found.broken (Rule.cover gate)) e = omega arith
-reply-not-seven depth (Found.broken Rule.depth) e = omega arith
+-- the reply that names a rule has the rule's number and place
+rule-number : (depth : ℕ) (rule : Rule) → number (replyOf depth (Found.broken rule)) ≡ ruleNumber rule
+rule-number depth (Rule.cut gate leaves) = refl
+rule-number depth (Rule.label gate) = refl
+rule-number depth (Rule.paths gate) = refl
+rule-number depth (Rule.function lut) = refl
+rule-number depth (Rule.cover gate) = refl
+rule-number depth Rule.depth = refl
 
-module _ (s t : List ℕ) (r : Inspection) where
-  abbrev One : Type 0
-  One = (q : Inspection) → Inspects s t q → r ≡ q
+rule-place : (depth : ℕ) (rule : Rule) → place (replyOf depth (Found.broken rule)) ≡ rulePlace rule
+rule-place depth (Rule.cut gate leaves) = refl
+rule-place depth (Rule.label gate) = refl
+rule-place depth (Rule.paths gate) = refl
+rule-place depth (Rule.function lut) = refl
+rule-place depth (Rule.cover gate) = refl
+rule-place depth Rule.depth = refl
 
-replies : (s t : List ℕ) (r : Inspection) → Inspects s t r → One s t r → InspectorReplies s t r
-replies s t r (Inspects.refused {x = x} e) one =
-    let (low, high) = refusal-number x in
-    record {
-      one = one;
-      loop = (λ n. absurd (omega (arith, n, low, high)), λ (whole, _). absurd (sound-not-refused whole e));
-      faulty = λ y f. (ap table.number (one-refusal e f), ap table.place (one-refusal e f));
-    }
-replies s t r (Inspects.loop e l) one =
-    record { one = one; loop = (λ _. (e, loop-some l), λ _. refl); faulty = λ y f. absurd (sound-not-refused e f) }
-replies s t r (Inspects.faulty {f = f} drawable e) one =
-    record {
-      one = one;
-      loop = (λ n. absurd (omega (arith, n, fault-high f)), λ (_, some). absurd (whole-free (drawable .no-loop) some));
-      faulty = λ y g. absurd (sound-not-refused (drawable .whole) g);
-    }
-replies s t r (Inspects.ruled {x = x} drawable e first) one =
-    record {
-      one = one;
-      loop = (λ n. absurd (reply-not-seven (sheetIn s t .depth) x n), λ (_, some). absurd (whole-free (drawable .no-loop) some));
-      faulty = λ y g. absurd (sound-not-refused (drawable .whole) g);
-    }
+rule-high : (rule : Rule) → 25 ≤ ruleNumber rule
+rule-high (Rule.cut gate leaves) = omega arith
+rule-high (Rule.label gate) = omega arith
+rule-high (Rule.paths gate) = omega arith
+rule-high (Rule.function lut) = omega arith
+rule-high (Rule.cover gate) = omega arith
+rule-high Rule.depth = omega arith
+
+module _ (s t : List ℕ) where
+  -- 7 is said for a loop alone
+  looped : {r : Inspection} → Inspects s t r → number r ≡ 7 → ReadsWhole s × (SomeLoop s × LowestLoop (drawn s) (place r))
+  looped (Inspects.refused {x = x} e) n = let (low, high) = refusal-number x in absurd (omega (arith, n, low, high))
+  looped (Inspects.loop e l) n = (e, (loop-some l, loop-lowest l))
+  looped (Inspects.faulty {f = f} _ e) n = absurd (omega (arith, n, fault-high f))
+  looped (Inspects.ruled {x = Found.none} _ e first) n = absurd (omega (arith, n))
+  looped (Inspects.ruled {x = Found.broken rule} _ e first) n =
+      absurd (omega (arith, n, rule-number (sheetIn s t .depth) rule, rule-high rule))
+
+  -- a loop gets 7
+  seven : {r : Inspection} → Inspects s t r → ReadsWhole s → SomeLoop s → number r ≡ 7
+  seven (Inspects.refused e) whole some = absurd (sound-not-refused whole e)
+  seven (Inspects.loop e l) whole some = refl
+  seven (Inspects.faulty drawable e) whole some = absurd (whole-free (drawable .no-loop) some)
+  seven (Inspects.ruled drawable e first) whole some = absurd (whole-free (drawable .no-loop) some)
+
+  -- 0 is said where all is kept
+  zero-kept : {r : Inspection} → Inspects s t r → number r ≡ 0 → KeepsAll s t
+  zero-kept (Inspects.refused {x = x} e) n = let (low, high) = refusal-number x in absurd (omega (arith, n, low))
+  zero-kept (Inspects.loop e l) n = absurd (omega (arith, n))
+  zero-kept (Inspects.faulty {f = f} _ e) n = absurd (omega (arith, n, fault-high f))
+  zero-kept (Inspects.ruled {x = Found.none} drawable e first) n = accepted-exactly s t (Inspects.ruled drawable e first)
+  zero-kept (Inspects.ruled {x = Found.broken rule} _ e first) n =
+      absurd (omega (arith, n, rule-number (sheetIn s t .depth) rule, rule-high rule))
+
+  replies : (r : Inspection) → Inspects s t r → InspectorReplies s t r
+  replies r inspects =
+      record {
+        one = λ q other. one-reply s t inspects other;
+        loop = (λ n. let (whole, (some, _)) = looped inspects n in (whole, some), λ (whole, some). seven inspects whole some);
+        lowest = λ n. let (_, (_, lowest)) = looped inspects n in lowest;
+        faulty = λ x e. let same : r ≡ Refused x = one-reply s t inspects (Inspects.refused e) in (ap number same, ap place same);
+        misshapen = λ f taken e.
+            let same : r ≡ Shape f = one-reply s t inspects (Inspects.faulty (drawable taken) e) in
+            (ap number same, ap place same);
+        broken = λ rule taken e first.
+            let same : r ≡ replyOf (sheetIn s t .depth) (Found.broken rule) = one-reply s t inspects (Inspects.ruled (drawable taken) e first) in
+            (ap number same ∙ rule-number (sheetIn s t .depth) rule, ap place same ∙ rule-place (sheetIn s t .depth) rule);
+        accepted = (zero-kept inspects, λ kept. ap number (one-reply s t inspects (keeps-accepted s t kept)));
+      }
+    where
+      drawable : IsTaken s → Drawable s t
+      drawable (whole, free) = record { whole = whole; no-loop = free-whole free }
 
 pub demand-1-inspector : Demand-1-inspector
-demand-1-inspector s t r inspects = replies s t r inspects (λ q other. one-reply s t inspects other)
+demand-1-inspector s t r inspects = replies s t r inspects

@@ -1,3 +1,4 @@
 pub mod Mapper
 pub mod Roots
 pub mod Inspector
+pub mod Longest

@@ -6,10 +6,11 @@ use mathlib.Core.Logic.{_⊎_, _↔_}
 use mathlib.Core.Bool.{Bool, true, false, true≢false}
 use mathlib.Core.List.{List, _++_, List·Memᴰ}
 use lib.ListN.{length, take, drop}
-use lib.Seq.{take-at}
+use lib.Seq.{take-at, drop-at}
 use Rattle.theory.specs.Net.{Net, Gate}
 use Rattle.theory.specs.Walk.{Loop}
 use Rattle.theory.specs.Cover.{Label}
+use Rattle.theory.specs.Cases.{LowestLoop}
 use Rattle.drawing.specs.declared.Node.{Node}
 use Rattle.drawing.specs.declared.Refusal.{Refusal}
 use Rattle.drawing.specs.declared.Refusal.the-variants as refusal
@@ -107,12 +108,14 @@ refusal-number (refusal.Outputs at) = (omega arith, omega arith)
 pub loop-some : {net : Net} {g : Node} → LoopRuling net (order.LoopAt g) → (h : ℕ) × (Gate net h × Loop net h)
 loop-some (LoopRuling.lowest {g = g} gate around _) = (g, (gate, around))
 
-pub loop-lowest : {net : Net} {g : Node} → LoopRuling net (order.LoopAt g) →
-    Gate net (g .id) × (Loop net (g .id) × ((h : ℕ) → Gate net h → h < g .id → Loop net h → ⊥))
-loop-lowest (LoopRuling.lowest gate around lowest) = (gate, (around, lowest))
+pub loop-lowest : {net : Net} {g : Node} → LoopRuling net (order.LoopAt g) → LowestLoop net (g .id)
+loop-lowest (LoopRuling.lowest gate around lowest) = record { gate = gate; loop = around; lowest = λ h less g. lowest h g less }
 
 pub whole-free : {net : Net} → LoopRuling net order.Whole → (h : ℕ) × (Gate net h × Loop net h) → ⊥
 whole-free free (g, (gate, around)) = no-loops free g gate around
+
+pub free-whole : {net : Net} → ((h : ℕ) × (Gate net h × Loop net h) → ⊥) → LoopRuling net order.Whole
+free-whole free = LoopRuling.none (λ g gate around. free (g, (gate, around)))
 
 whole-or-loop : {net : Net} {g : Node} → LoopRuling net order.Whole → LoopRuling net (order.LoopAt g) → ⊥
 whole-or-loop free some = whole-free free (loop-some some)
@@ -130,6 +133,14 @@ pub bytes-front : (before after : List ℕ) (r : Reply) (sheet : Sheet) → r �
 bytes-front before after r sheet p a =
     ap (λ (n : ℕ). take n after) (ap place p) ∙ ap (take (length (encode narrow sheet))) a ∙ front (encode narrow sheet) before
 
+-- and behind it the buffer is as before
+bytes-rest : (before after : List ℕ) (r : Reply) (sheet : Sheet) → r ≡ Mapped (length (encode narrow sheet)) →
+    after ≡ encode narrow sheet ++ drop (length (encode narrow sheet)) before → drop (place r) after ≡ drop (place r) before
+bytes-rest before after r sheet p a =
+    let size = length (encode narrow sheet) in
+    ap (λ (n : ℕ). drop n after) (ap place p) ∙ ap (drop size) a ∙ drop-at (encode narrow sheet) (drop size before) size refl
+    ∙ ap (λ (n : ℕ). drop n before) (sym (ap place p))
+
 -- The mapper's sheet
 
 module _ (s : List ℕ) (whole : ReadsWhole s) (free : LoopRuling (drawn s) order.Whole) where
@@ -143,7 +154,7 @@ module _ (s : List ℕ) (whole : ReadsWhole s) (free : LoopRuling (drawn s) orde
   unfolding netOf
   due-same i = record { form = narrow; most = 191; k = headK s; inputs = headI s; nodes = nodes-are s whole i }
 
-  sheet-read : (sheet : Sheet) → MapsTo s sheet → reading (dueIn s) (encode narrow sheet) ≡ record { sheet = sheet; ruling = ruling.Sound }
+  pub sheet-read : (sheet : Sheet) → MapsTo s sheet → reading (dueIn s) (encode narrow sheet) ≡ record { sheet = sheet; ruling = ruling.Sound }
   sheet-read sheet mapper =
       let shaped : Shaped (dueFor narrow 191 (headK s) (drawn s)) sheet =
       mappers-sheet-shaped (drawn s) (tablesOf (tableOf s)) (headK s) (found s .outputs) sheet (drawing s whole free) (table-ranked s whole free)
@@ -211,20 +222,22 @@ module _ (s before : List ℕ) (r : Reply) (after : List ℕ) where
         loop = (λ n. absurd (omega (arith, is, low, high)), λ (whole, _). absurd (sound-not-refused whole e));
         lowest = λ n. absurd (omega (arith, is, low, high));
         faulty = λ y f. (is ∙ ap table.number (one-refusal e f), ap place p ∙ ap table.place (one-refusal e f));
-        room = (λ n. absurd (omega (arith, is, low, high)), λ (whole, _). absurd (sound-not-refused whole e));
-        mapped = (λ n. absurd (omega (arith, is, low, high)), λ (whole, _). absurd (sound-not-refused whole e));
+        room = (λ n. absurd (omega (arith, is, low, high)), λ ((whole, _), _). absurd (sound-not-refused whole e));
+        mapped = (λ n. absurd (omega (arith, is, low, high)), λ ((whole, _), _). absurd (sound-not-refused whole e));
         untouched = λ _. a;
+        rest = λ n. absurd (omega (arith, is, low, high));
       }
   replies (Case.loop {g = g} e l p a) one =
       let is : number r ≡ 7 = ap number p in
       record {
         one = one;
         loop = (λ _. (e, loop-some l), λ _. is);
-        lowest = λ _. subst (λ (v : ℕ). Gate (drawn s) v × (Loop (drawn s) v × ((h : ℕ) → Gate (drawn s) h → h < v → Loop (drawn s) h → ⊥))) (sym (ap place p)) (loop-lowest l);
+        lowest = λ _. subst (LowestLoop (drawn s)) (sym (ap place p)) (loop-lowest l);
         faulty = λ x f. absurd (sound-not-refused e f);
-        room = (λ n. absurd (omega (arith, is, n)), λ (_, (free, _)). absurd (free (loop-some l)));
-        mapped = (λ n. absurd (omega (arith, is, n)), λ (_, (free, _)). absurd (free (loop-some l)));
+        room = (λ n. absurd (omega (arith, is, n)), λ ((_, free), _). absurd (free (loop-some l)));
+        mapped = (λ n. absurd (omega (arith, is, n)), λ ((_, free), _). absurd (free (loop-some l)));
         untouched = λ _. a;
+        rest = λ n. absurd (omega (arith, is, n));
       }
   replies (Case.room e free short p a) one =
       let is : number r ≡ 8 = ap number p in
@@ -233,9 +246,10 @@ module _ (s before : List ℕ) (r : Reply) (after : List ℕ) where
         loop = (λ n. absurd (omega (arith, is, n)), λ (_, some). absurd (whole-free free some));
         lowest = λ n. absurd (omega (arith, is, n));
         faulty = λ x f. absurd (sound-not-refused e f);
-        room = (λ _. (e, (whole-free free, short)), λ _. is);
-        mapped = (λ n. absurd (omega (arith, is, n)), λ (_, (_, long)). absurd (omega (arith, short, long)));
+        room = (λ _. ((e, whole-free free), short), λ _. is);
+        mapped = (λ n. absurd (omega (arith, is, n)), λ (_, long). absurd (omega (arith, short, long)));
         untouched = λ _. a;
+        rest = λ n. absurd (omega (arith, is, n));
       }
   replies (Case.mapped sheet e free long mapper p a) one =
       let is : number r ≡ 0 = ap number p in
@@ -244,9 +258,10 @@ module _ (s before : List ℕ) (r : Reply) (after : List ℕ) where
         loop = (λ n. absurd (omega (arith, is, n)), λ (_, some). absurd (whole-free free some));
         lowest = λ n. absurd (omega (arith, is, n));
         faulty = λ x f. absurd (sound-not-refused e f);
-        room = (λ n. absurd (omega (arith, is, n)), λ (_, (_, short)). absurd (omega (arith, short, long)));
-        mapped = (λ _. (e, (whole-free free, long)), λ _. is);
+        room = (λ n. absurd (omega (arith, is, n)), λ (_, short). absurd (omega (arith, short, long)));
+        mapped = (λ _. ((e, whole-free free), long), λ _. is);
         untouched = λ refused. absurd (refused is);
+        rest = λ _. bytes-rest before after r sheet p a;
       }
 
 pub demand-1 : Demand-1
@@ -257,7 +272,14 @@ written s before r after (Case.refused {x = x} e p a) n = let (low, high) = refu
 written s before r after (Case.loop e l p a) n = absurd (omega (arith, ap number p, n))
 written s before r after (Case.room e free short p a) n = absurd (omega (arith, ap number p, n))
 written s before r after (Case.mapped sheet e free long mapper p a) n =
-    record { sheet = sheet; bytes = bytes-front before after r sheet p a; labels = labels-true s sheet mapper; right = sheet-right s e free sheet mapper }
+    let bytes = bytes-front before after r sheet p a in
+    record {
+      sheet = sheet;
+      bytes = bytes;
+      read = ap (reading (dueIn s)) bytes ∙ sheet-read s e free sheet mapper;
+      labels = labels-true s sheet mapper;
+      right = sheet-right s e free sheet mapper;
+    }
 
 pub demand-2 : Demand-2
 demand-2 s before r after m n = written s before r after (case s before r after m) n
