@@ -1,0 +1,146 @@
+-- Every place that a reply names fits 32 bits: the places in a table's bytes and a sheet's are small, a gate is one of 192 nodes, a sheet of the
+-- mapper's has at most 43,554 bytes, and a depth is at most 191.
+use Prim.Native.Nat.{ℕ, _-_, _≤_, _<_}
+use native.Mathlib.Omega.{arith}
+use mathlib.Core.Path.{_≡_, refl, ap, sym, subst}
+use mathlib.Core.Logic.{⊎-elim}
+use mathlib.Core.List.{List, [], _∷_, _++_, map, flatMap, List·Memᴰ, List·Memᴰ·head, List·Memᴰ·tail, List·Memᴰ·cases-cons, List·Memᴰ·append-cases, List·Memᴰ·eq-of-singleton}
+use lib.ListN.{length, getD}
+use Rattle.theory.specs.Net.{Net}
+use Rattle.drawing.specs.declared.Head.{Head}
+use Rattle.drawing.specs.declared.Node.{Node}
+use Rattle.drawing.specs.declared.Verdict.the-variants.{Sound}
+use Rattle.drawing.specs.Refusals as table
+use Rattle.drawing.specs.Fields.{headK}
+use Rattle.drawing.specs.Table.{netOf, tablesOf}
+use Rattle.drawing.specs.Reading.{found, tableOf, nodesOf}
+use Rattle.drawing.proofs.SoundTables.{table-sound}
+use Rattle.drawing.proofs.Places.{refused-place}
+use Rattle.walking.specs.declared.Ordering.the-variants as made
+use Rattle.walking.specs.Promises.{LoopRuling}
+use Rattle.taking.specs.declared.Taking.{Taking}
+use Rattle.taking.specs.declared.Taking.the-variants as taking
+use Rattle.taking.specs.Judged.{Says}
+use Rattle.sheet.specs.declared.Ruling.the-variants as ruling
+use Rattle.sheet.specs.Sheet.{Lut, Sheet}
+use Rattle.sheet.specs.Encoding.{narrow, encode}
+use Rattle.sheet.specs.Shape.{reading}
+use Rattle.sheet.specs.Rules.{Rule, Found, FirstBroken, rulePlace, gateRules, lutRules, gates, rulesOf}
+use Rattle.sheet.proofs.Longest.{no-longer-than}
+use Rattle.keeping.proofs.Listed.{flat-member, map-member, from-member}
+use Rattle.keeping.proofs.Shaped.{mappers-kept}
+use Rattle.keeping.proofs.Tables.{bounded, outputs-are-nodes, nodes-few, nodes-are, k-few, drawing, table-ranked}
+use Rattle.mapping.specs.declared.Reply.{Reply}
+use Rattle.mapping.specs.Maps as mapper
+use Rattle.mapping.specs.Maps.{Maps, MapsTo}
+use Rattle.inspecting.specs.declared.Inspection.{Inspection}
+use Rattle.inspecting.specs.Inspecting as inspector
+use Rattle.inspecting.specs.Inspecting.{Inspects, Drawable, dueIn, sheetIn, replyOf}
+use Rattle.inspecting.proofs.Places.{fault-place, depth-most}
+use Rattle.inspecting.proofs.Sound.{roots-rise}
+use Rattle.plover.specs.Words.{half}
+
+-- a gate on a loop is a node
+loop-node : {net : Net} {g : Node} → LoopRuling net (made.LoopAt g) → g .id < net .nodes
+loop-node (LoopRuling.lowest gate around lowest) = gate .below
+
+-- the place that is said of a table, if any
+abbrev placeSaid : Taking → ℕ
+placeSaid (taking.Taken h n) = 0
+placeSaid (taking.Refused x) = table.place x
+placeSaid (taking.LoopAt g) = g .id
+placeSaid taking.Lent = 0
+
+said-place : (s : List ℕ) (t : Taking) → Says s t → placeSaid t ≤ 3719
+said-place s t (Says.refused e) = refused-place s e
+said-place s t (Says.ordered {o = made.Whole} e ruling) = omega arith
+said-place s t (Says.ordered {o = made.LoopAt g} e ruling) = omega (arith, loop-node ruling, nodes-few s e)
+
+-- a table taken reads whole and has no loop
+free-of : (s : List ℕ) (t : Taking) {h : Head} {n : ℕ} → Says s t → t ≡ taking.Taken h n → (found s .verdict ≡ Sound) × LoopRuling (netOf (tableOf s)) made.Whole
+free-of s t (Says.refused e) same = let z : _≡_ {A = ℕ} 0 1 = cc in absurd (omega arith)
+free-of s t (Says.ordered {o = made.Whole} e ruling) same = (e, ruling)
+free-of s t (Says.ordered {o = made.LoopAt g} e ruling) same = let z : _≡_ {A = ℕ} 0 1 = cc in absurd (omega arith)
+
+sheet-length : (s : List ℕ) (sheet : Sheet) → mapper.Taken s → MapsTo s sheet → length (encode narrow sheet) ≤ 43554
+sheet-length s sheet taken to =
+    let (whole, free) = free-of s _ taken refl in
+    no-longer-than (drawing s whole free)
+    (mappers-kept (netOf (tableOf s)) (tablesOf (tableOf s)) (headK s) (found s .outputs) sheet (drawing s whole free) (table-ranked s whole free) (outputs-are-nodes s whole) to)
+    (k-few s whole) (nodes-few s whole)
+
+pub map-place : (s before : List ℕ) (r : Reply) (after : List ℕ) → Maps s before r after → mapper.place r < half
+map-place s before r after (Maps.refused says is same) = omega (arith, said-place s _ says, ap mapper.place is)
+map-place s before r after (Maps.loop says is same) = omega (arith, said-place s _ says, ap mapper.place is)
+map-place s before r after (Maps.room says short is same) = omega (arith, ap mapper.place is)
+map-place s before r after (Maps.mapped sheet says long to is same) = omega (arith, sheet-length s sheet says to, ap mapper.place is)
+
+-- the first rule that is broken is one of the list
+broken-member : {Kept : Rule → Type 0} {rules : List Rule} {r : Rule} → FirstBroken Kept rules (Found.broken r) → List·Memᴰ r rules
+broken-member (FirstBroken.here none) = List·Memᴰ·head refl
+broken-member (FirstBroken.later kept rest) = List·Memᴰ·tail (broken-member rest)
+
+-- the rules of a sheet are tried at nodes
+module _ (net : Net) (sheet : Sheet) (span : net .inputs ≤ net .nodes) (roots : (lut : Lut) → List·Memᴰ lut (sheet .luts) → lut .root < net .nodes) where
+  abbrev Low : Rule → Type 0
+  Low r = rulePlace r ≤ net .nodes
+
+  abbrev AllLow : List Rule → Type 0
+  AllLow rules = (r : Rule) → List·Memᴰ r rules → Low r
+
+  gate-low : {t : ℕ} → List·Memᴰ t (gates net) → t ≤ net .nodes
+  gate-low {t} m = let (low, high) = from-member (net .inputs) (net .nodes - net .inputs) t m in omega (arith, high, span)
+
+  by-gate : {t : ℕ} → t ≤ net .nodes → AllLow (gateRules (net .inputs) (sheet .lines) t)
+  by-gate low r m =
+      ⊎-elim (λ (e : r ≡ _). subst Low (sym e) low)
+      (λ (m : List·Memᴰ r _).
+      ⊎-elim (λ (e : r ≡ _). subst Low (sym e) low) (λ (m : List·Memᴰ r _). subst Low (sym (List·Memᴰ·eq-of-singleton m)) low) (List·Memᴰ·cases-cons m))
+      (List·Memᴰ·cases-cons m)
+
+  by-lut : (lut : Lut) → lut .root ≤ net .nodes → AllLow (lutRules lut)
+  by-lut lut low r m =
+      ⊎-elim (λ (e : r ≡ _). subst Low (sym e) low) (λ (m : List·Memᴰ r _). subst Low (sym (List·Memᴰ·eq-of-singleton m)) low) (List·Memᴰ·cases-cons m)
+
+  both : (l m : List Rule) → AllLow l → AllLow m → AllLow (l ++ m)
+  both l m here there r member = ⊎-elim (here r) (there r) (List·Memᴰ·append-cases l member)
+
+  rules-low : AllLow (rulesOf net sheet)
+  rules-low =
+      let first = flatMap (gateRules (net .inputs) (sheet .lines)) (gates net) in
+      let second = flatMap lutRules (sheet .luts) in
+      let third = map Rule.cover (gates net) in
+      let by-gates : AllLow first =
+      λ r m. let (t, (member, on)) = flat-member (gateRules (net .inputs) (sheet .lines)) (gates net) m in by-gate (gate-low member) r on in
+      let by-luts : AllLow second = λ r m. let (lut, (member, on)) = flat-member lutRules (sheet .luts) m in by-lut lut (omega (arith, roots lut member)) r on in
+      let by-cover : AllLow third = λ r m. let (t, (member, e)) = map-member Rule.cover (gates net) m in subst Low (sym e) (gate-low member) in
+      let by-depth : AllLow (Rule.depth ∷ []) = λ r m. subst Low (sym (List·Memᴰ·eq-of-singleton m)) (omega arith) in
+      both (first ++ second ++ third) (Rule.depth ∷ []) (both (first ++ second) third (both first second by-gates by-luts) by-cover) by-depth
+
+reply-place : (depth : ℕ) (x : Found) → depth ≤ 191 → ((r : Rule) → x ≡ Found.broken r → rulePlace r ≤ 192) → inspector.place (replyOf depth x) < half
+reply-place depth Found.none low broken = omega (arith, low)
+reply-place depth (Found.broken (Rule.cut gate leaves)) low broken = omega (arith, broken _ refl)
+reply-place depth (Found.broken (Rule.label gate)) low broken = omega (arith, broken _ refl)
+reply-place depth (Found.broken (Rule.paths gate)) low broken = omega (arith, broken _ refl)
+reply-place depth (Found.broken (Rule.function lut)) low broken = omega (arith, broken _ refl)
+reply-place depth (Found.broken (Rule.cover gate)) low broken = omega (arith, broken _ refl)
+reply-place depth (Found.broken Rule.depth) low broken = omega arith
+
+module _ (s t : List ℕ) (bytes : (i : ℕ) → getD t i 0 < 256) where
+  few : found s .verdict ≡ Sound → nodesOf s ≤ 192
+  few whole = table-sound s whole .head .nodes-most
+
+  broken-low : Drawable s t → reading (dueIn s) t .ruling ≡ ruling.Sound → {Kept : Rule → Type 0} (x : Found) → FirstBroken Kept (rulesOf (netOf (tableOf s)) (sheetIn s t)) x →
+      (r : Rule) → x ≡ Found.broken r → rulePlace r ≤ 192
+  broken-low d sound {Kept} x first r e =
+      let net = netOf (tableOf s) in
+      let roots : (lut : Lut) → List·Memᴰ lut (sheetIn s t .luts) → lut .root < net .nodes =
+      λ lut m. omega (arith, roots-rise (dueIn s) t sound .nodes-at lut m, nodes-are s (d .whole)) in
+      let member : List·Memᴰ r (rulesOf net (sheetIn s t)) = broken-member (subst (FirstBroken Kept (rulesOf net (sheetIn s t))) e first) in
+      omega (arith, rules-low net (sheetIn s t) (bounded s (d .whole) .span) roots r member, nodes-few s (d .whole))
+
+  pub inspect-place : (r : Inspection) → Inspects s t r → inspector.place r < half
+  inspect-place r (Inspects.refused e) = omega (arith, refused-place s e)
+  inspect-place r (Inspects.loop e l) = omega (arith, loop-node l, nodes-few s e)
+  inspect-place r (Inspects.faulty d e) = omega (arith, fault-place (dueIn s) t bytes (omega (arith, few (d .whole))) e)
+  inspect-place r (Inspects.ruled {x = x} d sound first) = reply-place (sheetIn s t .depth) x (depth-most (dueIn s) t sound) (broken-low d sound x first)

@@ -1,0 +1,19 @@
+-- `plover_inspect` meets its contract: the word is that of the inspector's reply, whose place fits.
+use native.Mathlib.Omega.{arith}
+use denote.Ref.{now}
+use Rattle.plover.proofs.Places.{inspect-place}
+use borrow.Author.Needs.{needs}
+use Rattle.plover.proofs.plover_inspect.Statement.{statement}
+use Rattle.plover.proofs.plover_inspect.Tie as tie
+
+inspect-requires : tie.Need-inspect-requires
+inspect-requires c κs = search needs
+
+inspect-word-requires : tie.Need-inspect-word-requires
+inspect-word-requires c κs = inspect-place (now (c .before .before .before .args .table)) (now (c .before .before .before .args .sheet)) (λ i. omega (arith, c .before .shared-slice-known2 .given i)) _ (c .inspect .ensures)
+
+returns : tie.Need-returns
+returns c = record { reply = c .before .inspect .result; inspects = c .before .inspect .ensures; fits = inspect-place (now (c .before .before .before .before .args .table)) (now (c .before .before .before .before .args .sheet)) (λ i. omega (arith, c .before .before .shared-slice-known2 .given i)) _ (c .before .inspect .ensures); word = c .inspect-word .ensures }
+
+pub plover-inspect-spec : {M : Type 1} → statement M
+plover-inspect-spec = tie.close (tie.spec inspect-requires inspect-word-requires returns)
