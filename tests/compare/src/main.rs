@@ -1,16 +1,25 @@
 //! Compares the proved crates with the second implementation, subject by subject.
 //!
-//! Usage: `compare quick|long [SEED]`. It ends with status 1 at the first difference.
+//! Usage: `compare quick|long [SEED [SUBJECT]]`. It ends with status 1 at the first difference.
 
 mod arrays;
+mod careless;
 mod drawing;
 mod drawn;
+mod inspecting;
 mod labelling;
+mod mapped;
+mod mapping;
+#[cfg(test)]
+mod mutants;
+mod plover;
 mod probe;
 mod random;
 mod reading;
 mod taking;
+mod tally;
 mod walking;
+mod word;
 
 use std::env;
 use std::process::ExitCode;
@@ -35,27 +44,41 @@ impl Size {
 /// Compares one subject, from a seed, and says what differs.
 type Subject = fn(Size, u64) -> Result<(), String>;
 
-const SUBJECTS: [(&str, Subject); 4] = [
+const SUBJECTS: [(&str, Subject); 6] = [
     ("reading", reading::compare),
     ("taking", taking::compare),
     ("walking", walking::compare),
     ("labelling", labelling::compare),
+    ("mapping", mapping::compare),
+    ("inspecting", inspecting::compare),
 ];
 
 const USUAL_SEED: u64 = 20_231_117;
 
+/// What the command line asks for.
+struct Run {
+    size: Size,
+    seed: u64,
+    /// The one subject, or all.
+    subject: Option<String>,
+}
+
 fn main() -> ExitCode {
     let words: Vec<String> = env::args().skip(1).collect();
-    let (size, seed) = match arguments(&words) {
+    let run = match run(&words) {
         Some(run) => run,
         None => {
-            eprintln!("usage: compare quick|long [SEED]");
+            eprintln!("usage: compare quick|long [SEED [SUBJECT]]");
             return ExitCode::from(2);
         }
     };
+    let seed = run.seed;
     println!("compare: seed {seed}");
     for (name, compare) in SUBJECTS {
-        if let Err(difference) = compare(size, seed) {
+        if run.subject.as_deref().map_or(false, |subject| subject != name) {
+            continue;
+        }
+        if let Err(difference) = compare(run.size, seed) {
             eprintln!("compare: {name}: DIFFERENCE, seed {seed}\n{difference}");
             return ExitCode::FAILURE;
         }
@@ -63,15 +86,19 @@ fn main() -> ExitCode {
     ExitCode::SUCCESS
 }
 
-fn arguments(words: &[String]) -> Option<(Size, u64)> {
+fn run(words: &[String]) -> Option<Run> {
     let size = match words.first()?.as_str() {
         "quick" => Size::Quick,
         "long" => Size::Long,
         _ => return None,
     };
-    match words.len() {
-        1 => Some((size, USUAL_SEED)),
-        2 => Some((size, words[1].parse().ok()?)),
-        _ => None,
-    }
+    let seed = words.get(1).map_or(Some(USUAL_SEED), |word| word.parse().ok())?;
+    let subject = words.get(2).cloned();
+    let is_subject = |name: &String| SUBJECTS.iter().any(|(subject, _)| subject == name);
+    let is_good = words.len() <= 3 && subject.as_ref().map_or(true, is_subject);
+    is_good.then_some(Run { size, seed, subject })
+}
+
+fn hexadecimal(bytes: &[u8]) -> String {
+    bytes.iter().map(|byte| format!("{byte:02x}")).collect()
 }

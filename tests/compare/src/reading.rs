@@ -1,8 +1,8 @@
 //! Reading a gate table: `probe_read` against the second reader, in groups of cases.
 
 mod comparison;
-mod damage;
-mod edges;
+pub mod damage;
+pub mod edges;
 mod reply;
 
 use crate::arrays::Lengths;

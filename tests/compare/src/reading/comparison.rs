@@ -5,6 +5,7 @@
 
 use super::reply;
 use crate::arrays::{Arrays, Lengths};
+use crate::hexadecimal;
 use crate::probe;
 use crate::random::Random;
 use second::table::read;
@@ -126,8 +127,4 @@ impl Comparison {
             None => Ok(()),
         }
     }
-}
-
-fn hexadecimal(bytes: &[u8]) -> String {
-    bytes.iter().map(|byte| format!("{byte:02x}")).collect()
 }

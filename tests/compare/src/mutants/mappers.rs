@@ -1,0 +1,200 @@
+//! Wrong mappers.
+
+use super::{assert_noticed, inspect, map, map_changed, STAND_IN};
+use crate::mapped::Mapped;
+use crate::mapping::comparison::Comparison;
+use crate::mapping::{by_hand, damaged_tables, drawings, sheet};
+use crate::plover::Library;
+use second::drawings::named;
+use second::random::Random;
+use second::sheet::{Sheet, BUFFER_LIMIT};
+use second::{LOOP, ROOM};
+
+fn run(library: Library) -> Result<(), String> {
+    let mut comparison = Comparison::new(library, 1);
+    by_hand(&mut comparison)?;
+    drawings(&mut comparison, 200)?;
+    damaged_tables(&mut comparison, 400)
+}
+
+fn notices(map: &dyn Fn(&[u8], &mut [u8]) -> u64, words: &str) {
+    assert_noticed(run(Library { map, ..STAND_IN }), words);
+}
+
+/// Maps, and then changes the reply or the buffer.
+fn notices_after(change: impl Fn(u64, &mut [u8]) -> u64, words: &str) {
+    let wrong = |table: &[u8], buffer: &mut [u8]| {
+        let word = map(table, buffer);
+        change(word, buffer)
+    };
+    notices(&wrong, words);
+}
+
+/// Maps, and changes the sheet.
+fn notices_changed(change: impl Fn(&mut Sheet), words: &str) {
+    notices(&|table, buffer| map_changed(table, buffer, &change), words);
+}
+
+fn is_refusal(word: u64) -> bool {
+    word >> 32 != 0
+}
+
+#[test]
+fn the_stand_in_passes() {
+    assert_eq!(run(STAND_IN), Ok(()));
+}
+
+#[test]
+fn wrong_replies() {
+    notices_after(|_, _| 1 << 32, "reply:");
+    notices_after(|word, _| word + u64::from(!is_refusal(word)), "shape:");
+    notices_after(|word, _| word - u64::from(!is_refusal(word)), "buffer:");
+    notices_after(|word, _| if is_refusal(word) { 0 } else { word }, "reply:");
+    notices_after(|word, _| if is_refusal(word) { word } else { 1 << 31 }, "reply:");
+    for number in 1..=8 {
+        let is_such = |word: u64| word >> 32 == number;
+        notices_after(|word, _| if is_such(word) { word + 1 } else { word }, "reply:");
+        notices_after(|word, _| if is_such(word) { word ^ 1 << 36 } else { word }, "reply:");
+    }
+}
+
+#[test]
+fn room_before_loop() {
+    let wrong = |table: &[u8], buffer: &mut [u8]| match map(table, buffer) {
+        word if word >> 32 == u64::from(LOOP) && buffer.len() < BUFFER_LIMIT => {
+            u64::from(ROOM) << 32 | BUFFER_LIMIT as u64
+        }
+        word => word,
+    };
+    notices(&wrong, "reply:");
+}
+
+#[test]
+fn one_fixed_sheet() {
+    let bytes = Mapped::of_table(named("P1")).unwrap().sheet.bytes();
+    let wrong = |table: &[u8], buffer: &mut [u8]| {
+        let word = map(table, buffer);
+        if is_refusal(word) {
+            return word;
+        }
+        buffer[..bytes.len()].copy_from_slice(&bytes);
+        bytes.len() as u64
+    };
+    notices(&wrong, "shape:");
+    notices(&|table, buffer| map(table, &mut buffer.to_vec()), "shape:");
+}
+
+#[test]
+fn bytes_that_are_not_left_alone() {
+    let inverted = |place: usize, buffer: &mut [u8]| {
+        if let Some(byte) = buffer.get_mut(place) {
+            *byte = !*byte;
+        }
+    };
+    for place in [0, 5, 48_000] {
+        let wrong = |word: u64, buffer: &mut [u8]| {
+            if is_refusal(word) {
+                inverted(place, buffer);
+            }
+            word
+        };
+        notices_after(wrong, &format!("buffer: byte {place} "));
+    }
+    let past_the_end = |word: u64, buffer: &mut [u8]| {
+        if !is_refusal(word) {
+            inverted(word as usize, buffer);
+        }
+        word
+    };
+    notices_after(past_the_end, "buffer:");
+    let last_of_all = |word: u64, buffer: &mut [u8]| {
+        inverted(buffer.len().wrapping_sub(1), buffer);
+        word
+    };
+    notices_after(last_of_all, "buffer:");
+}
+
+#[test]
+fn wrong_fixed_parts() {
+    notices_changed(|sheet| sheet.depth += 1, "fixed part:");
+    notices_changed(|sheet| drop(sheet.luts.pop()), "fixed part:");
+    notices_changed(|sheet| sheet.luts.truncate(2), "fixed part:");
+    notices_changed(|sheet| sheet.luts.iter_mut().for_each(|lut| lut.rows ^= 2), "fixed part:");
+    let last_label = |sheet: &mut Sheet| {
+        if let Some(line) = sheet.lines.last_mut() {
+            line.label = 1 + line.label % 190;
+        }
+    };
+    notices_changed(last_label, "fixed part:");
+    let fewer_leaves = |sheet: &mut Sheet| {
+        let lines = sheet.lines.iter_mut().filter(|line| line.leaves.len() > 1);
+        lines.for_each(|line| line.leaves.truncate(1));
+    };
+    notices_changed(fewer_leaves, "fixed part:");
+}
+
+#[test]
+fn false_evidence() {
+    let changed = |change: fn(&mut Vec<Vec<usize>>)| {
+        let each = move |sheet: &mut Sheet| {
+            let lines = sheet.lines.iter_mut().filter(|line| !line.paths.is_empty());
+            lines.for_each(|line| change(&mut line.paths));
+        };
+        notices_changed(each, "evidence:");
+    };
+    changed(|paths| paths[0] = paths[1].clone());
+    changed(|paths| paths.clear());
+    changed(|paths| paths[0].reverse());
+    changed(|paths| paths.iter_mut().for_each(|path| drop(path.drain(..path.len() - 1))));
+    let needless = |sheet: &mut Sheet| {
+        let with = sheet.lines.iter().find(|line| !line.paths.is_empty());
+        let paths = with.map_or(Vec::new(), |line| line.paths.clone());
+        sheet.lines[..1].iter_mut().for_each(|line| line.paths = paths.clone());
+    };
+    let some = |sheet: &mut Sheet| {
+        if !sheet.lines.is_empty() {
+            needless(sheet);
+        }
+    };
+    notices_changed(some, "evidence:");
+}
+
+/// These are behind the comparison of fixed parts, so they are called by themselves.
+#[test]
+fn wrong_values_and_parts_by_themselves() {
+    let mut random = Random::seeded(2);
+    for name in ["P1", "P2", "P4", "P5 at K 2"] {
+        let mapped = Mapped::of_table(named(name)).unwrap();
+        let mut wrong = mapped.sheet.clone();
+        assert_eq!(sheet::values(&mapped.graph, &wrong.luts, &mut random), Ok(()));
+        let last = wrong.luts.len() - 1;
+        wrong.luts[last].rows ^= 1;
+        assert_noticed(sheet::values(&mapped.graph, &wrong.luts, &mut random), "values:");
+        assert_noticed(sheet::fixed_part(&mapped, &wrong), "fixed part:");
+    }
+}
+
+#[test]
+fn inspectors_are_given_both_sheets() {
+    let deeper = |table: &[u8], sheet: &[u8]| match inspect(table, sheet) {
+        word if is_refusal(word) => word,
+        word => word + 1,
+    };
+    let exchanged = "exchange: the library's sheet by the library";
+    assert_noticed(run(Library { inspect: &deeper, ..STAND_IN }), exchanged);
+    let with_paths_reversed = |table: &[u8], buffer: &mut [u8]| {
+        map_changed(table, buffer, |sheet| {
+            sheet.lines.iter_mut().for_each(|line| line.paths.reverse())
+        })
+    };
+    let own_alone = |table: &[u8], sheet: &[u8]| {
+        let own = &mut vec![0; BUFFER_LIMIT];
+        let length = with_paths_reversed(table, own) as usize;
+        match own[..length] == *sheet {
+            true => inspect(table, sheet),
+            false => 27 << 32,
+        }
+    };
+    let agree = Library { map: &with_paths_reversed, inspect: &own_alone };
+    assert_noticed(run(agree), "exchange: the second's sheet by the library");
+}

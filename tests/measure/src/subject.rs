@@ -1,0 +1,98 @@
+//! What is measured: `map` and `inspect`, of the static library and of the ordinary program.
+
+use crate::plover;
+use plain::mapping::SHEET_ROOM;
+
+#[derive(Clone, Copy, Debug, PartialEq, Eq)]
+pub enum Maker {
+    Proved,
+    Plain,
+}
+
+#[derive(Clone, Copy, Debug, PartialEq, Eq)]
+pub enum Task {
+    Map,
+    Inspect,
+}
+
+/// A function, by who made it and what it does.
+#[derive(Clone, Copy, Debug, PartialEq, Eq)]
+pub struct Subject {
+    pub maker: Maker,
+    pub task: Task,
+}
+
+pub const SUBJECTS: [(&str, Subject); 4] = [
+    ("plover-map", Subject { maker: Maker::Proved, task: Task::Map }),
+    ("plover-inspect", Subject { maker: Maker::Proved, task: Task::Inspect }),
+    ("plain-map", Subject { maker: Maker::Plain, task: Task::Map }),
+    ("plain-inspect", Subject { maker: Maker::Plain, task: Task::Inspect }),
+];
+
+impl Subject {
+    pub fn name(self) -> &'static str {
+        let known = SUBJECTS.iter().find(|(_, subject)| *subject == self);
+        known.expect("all four are listed").0
+    }
+
+    pub fn named(name: &str) -> Option<Subject> {
+        SUBJECTS.iter().find(|(known, _)| *known == name).map(|&(_, subject)| subject)
+    }
+}
+
+/// The library's sheet of a table, which both inspectors are given.
+pub fn sheet_of(table: &[u8]) -> Result<Vec<u8>, plover::Refusal> {
+    let mut sheet = vec![0; SHEET_ROOM];
+    let length = plover::map(table, &mut sheet)?;
+    sheet.truncate(length);
+    Ok(sheet)
+}
+
+/// A table and the bytes that a subject is called with: room for a sheet, or the sheet.
+#[derive(Clone)]
+pub struct Job {
+    subject: Subject,
+    table: Vec<u8>,
+    sheet: Vec<u8>,
+}
+
+impl Job {
+    pub fn new(subject: Subject, table: &[u8]) -> Job {
+        let sheet = match subject.task {
+            Task::Map => vec![0; SHEET_ROOM],
+            Task::Inspect => sheet_of(table).expect("the library maps what is measured"),
+        };
+        Job { subject, table: table.to_vec(), sheet }
+    }
+
+    /// Calls the subject once. A refusal would make what is measured worthless, so it panics.
+    pub fn call(&mut self) -> usize {
+        let answer = measured_call(self.subject, &self.table, &mut self.sheet);
+        answer.expect("what is measured is taken")
+    }
+}
+
+/// Whether the ordinary program takes the library's steps: it writes the same sheet to the last
+/// byte, evidence too, which only the order of the search decides; and it finds the same depth.
+pub fn are_alike(table: &[u8]) -> bool {
+    let [mut ours, mut theirs] = [vec![0; SHEET_ROOM], vec![0; SHEET_ROOM]];
+    match (plover::map(table, &mut ours), plain::map(table, &mut theirs)) {
+        (Ok(length), Ok(plain_length)) if length == plain_length && ours == theirs => {
+            let depth = plover::inspect(table, &ours[..length]).ok();
+            depth.is_some() && depth == plain::inspect(table, &ours[..length]).ok()
+        }
+        _ => false,
+    }
+}
+
+/// Callgrind counts between this function's entry and its return, and knows it by its name.
+#[no_mangle]
+#[inline(never)]
+pub fn measured_call(subject: Subject, table: &[u8], sheet: &mut [u8]) -> Option<usize> {
+    match (subject.maker, subject.task) {
+        (Maker::Proved, Task::Map) => plover::map(table, sheet).ok(),
+        (Maker::Proved, Task::Inspect) => plover::inspect(table, sheet).ok(),
+        (Maker::Plain, Task::Map) => plain::map(table, sheet).ok(),
+        (Maker::Plain, Task::Inspect) => plain::inspect(table, sheet).ok(),
+    }
+}

@@ -1,0 +1,61 @@
+//! A folder to run a program in.
+
+use std::fs;
+use std::io::Write;
+use std::path::{Path, PathBuf};
+use std::process::{Command, Stdio};
+
+/// The script that runs a built program on this machine.
+const RUN: &str = concat!(env!("CARGO_MANIFEST_DIR"), "/../../run");
+
+pub struct Folder {
+    path: PathBuf,
+}
+
+impl Folder {
+    pub fn new() -> Folder {
+        let path = std::env::temp_dir().join(format!("ploverdrift-{}", std::process::id()));
+        fs::create_dir_all(&path).expect("a folder can be made");
+        Folder { path }
+    }
+
+    /// Writes a file of the folder, or removes it.
+    pub fn set(&self, name: &str, bytes: Option<&[u8]>) {
+        let file = self.path.join(name);
+        match bytes {
+            Some(bytes) => fs::write(file, bytes).expect("a file can be written"),
+            None if file.exists() => fs::remove_file(file).expect("a file can be removed"),
+            None => (),
+        }
+    }
+
+    /// What the program prints.
+    pub fn run(&self, program: &str, standard_input: &[u8]) -> String {
+        let mut child = Command::new(Path::new(RUN))
+            .arg(program)
+            .current_dir(&self.path)
+            .stdin(Stdio::piped())
+            .stdout(Stdio::piped())
+            .spawn()
+            .expect("./run can be started");
+        // A program that has read enough closes its end, so a failed write is no fault here.
+        let _ = child.stdin.take().expect("it is piped").write_all(standard_input);
+        let ended = child.wait_with_output().expect("the program ends");
+        assert!(ended.status.success(), "{program} ended with {}", ended.status);
+        String::from_utf8(ended.stdout).expect("the program prints text")
+    }
+}
+
+impl Drop for Folder {
+    fn drop(&mut self) {
+        let _ = fs::remove_dir_all(&self.path);
+    }
+}
+
+/// Ends with a difference if there is one.
+pub fn same(what: &str, bytes: &[&[u8]], printed: &str, due: &str) {
+    if printed != due {
+        eprintln!("programs: {what} differs for {bytes:?}\nprinted: {printed}due: {due}");
+        std::process::exit(1);
+    }
+}
