@@ -87,6 +87,19 @@ module _ {inputs nodes : ℕ} {fan count order : List ℕ} {t : ℕ} {labels : L
         met-long = here .long .met-long;
       }
 
+  pub paths-asked : {free ends′ : List ℕ} → nodes ≤ length free → nodes ≤ length ends′ → PathsAsked fan count bytes at width q free ends′
+  paths-asked free-long ends-long =
+      record {
+        nodes = nodes;
+        room = record {
+          ids = here .ids;
+          fed = λ v low. fed-in (here .drawn) v low nodes (omega arith);
+          free-long = free-long;
+          ends-long = ends-long;
+        };
+        stand = asked .stand;
+      }
+
   module _ {walked′ met′ : List ℕ} (walk : WalkMade (netIn inputs nodes fan count) [] t walked met walked′ met′) where
     pub area-asked : AreaAsked inputs nodes fan count t labels p met′ walked′ area ends
     unfolding netIn
@@ -105,21 +118,8 @@ module _ {inputs nodes : ℕ} {fan count order : List ℕ} {t : ℕ} {labels : L
           ends-long = here .long .ends-long;
         }
 
-    module _ {deep area′ ends′ : List ℕ} (area-size : length area′ ≡ length area) (ends-size : length ends′ ≡ length ends)
+    module _ {deep area′ ends′ : List ℕ} (area-size : length area′ ≡ length area)
         (marked : AreaMarked (netIn inputs nodes fan count) (labelIn labels) t walked′ deep area area′ ends ends′) where
-      pub paths-asked : PathsAsked fan count bytes at width q area′ ends′
-      paths-asked =
-          record {
-            nodes = nodes;
-            room = record {
-              ids = here .ids;
-              fed = λ v low. fed-in (here .drawn) v low nodes (omega arith);
-              free-long = omega (arith, area-size, here .long .area-long);
-              ends-long = omega (arith, ends-size, here .long .ends-long);
-            };
-            stand = asked .stand;
-          }
-
       pub evidence-told : {r : Bool} {area″ : List ℕ} →
           PathsTold (arePaths fan count ends′ inputs area′ (pathsAt bytes at width q)) (joined (pathsAt bytes at width q)) area′ r area″ →
           Told nodes (TruePaths (netIn inputs nodes fan count) (labelIn labels) t (pathsAt bytes at width q)) (scratchOf walked met area ends) r

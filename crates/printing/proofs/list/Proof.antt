@@ -1,6 +1,9 @@
 -- `list` meets its contract: what is said of the table comes first, and a table taken is listed.
 use native.Mathlib.Omega.{arith}
+use Prim.Native.Nat.{_≤_, _<_}
 use mathlib.Core.Path.{refl}
+use lib.ListN.{length}
+use denote.Ref.{now}
 use Rattle.taking.proofs.Judged.{table-taken, says, never-lent}
 use Rattle.printing.specs.Filled.{Filled}
 use Rattle.printing.proofs.Tables.{list-asked, lists-taken, lists-refused, lists-loop}
@@ -11,7 +14,7 @@ use Rattle.printing.proofs.list.Statement.{statement}
 use Rattle.printing.proofs.list.Tie as tie
 
 returns : tie.Need-returns
-returns c = front (Filled.short (c .if1 .taken) refl refl)
+returns c = let short : length (now (c .before .before .before .args .text)) < 18595 = omega (arith, c .if1 .taken) in front (Filled.short short refl refl)
 
 slice-aggregate-take-table : tie.Need-slice-aggregate-take-table
 slice-aggregate-take-table c = search needs
@@ -53,7 +56,7 @@ slice-aggregate-list-taken-5 : tie.Need-slice-aggregate-list-taken-5
 slice-aggregate-list-taken-5 c = search needs
 
 list-taken-requires : tie.Need-list-taken-requires
-list-taken-requires c κs = let known = (table-taken (c .before .before .before .before .before .before .before .before .before .before .before .before .before .before .before .take-table .ensures) (omega arith) (omega arith) (omega arith) (omega arith) (omega arith) (omega arith) (c .before .before .before .before .before .before .before .taken .given .1) (c .before .before .before .before .before .before .before .before .before .before .before .before .before .before .before .take-table .kept .1 .0) (c .before .before .before .before .before .before .before .before .before .before .before .before .before .before .before .take-table .kept .1 .1 .0) (c .before .before .before .before .before .before .before .before .before .before .before .before .before .before .before .take-table .kept .1 .1 .1 .0) (c .before .before .before .before .before .before .before .before .before .before .before .before .before .before .before .take-table .kept .1 .1 .1 .1 .0) (c .before .before .before .before .before .before .before .before .before .before .before .before .before .before .before .take-table .kept .1 .1 .1 .1 .1 .0)) in list-asked (known .ready) (known .head-is) (known .count-is) (c .before .before .before .before .before .before .before .before .before .before .before .before .before .before .before .before .before .before .before .before .before .before .if1 .left)
+list-taken-requires c κs = let long : 18595 ≤ length (now (c .before .before .before .before .before .before .before .before .before .before .before .before .before .before .before .before .before .before .before .before .before .before .before .before .before .args .text)) = omega (arith, c .before .before .before .before .before .before .before .before .before .before .before .before .before .before .before .before .before .before .before .before .before .before .if1 .left) in let known = (table-taken (c .before .before .before .before .before .before .before .before .before .before .before .before .before .before .before .take-table .ensures) (omega arith) (omega arith) (omega arith) (omega arith) (omega arith) (omega arith) (c .before .before .before .before .before .before .before .taken .given .1) (c .before .before .before .before .before .before .before .before .before .before .before .before .before .before .before .take-table .kept .1 .0) (c .before .before .before .before .before .before .before .before .before .before .before .before .before .before .before .take-table .kept .1 .1 .0) (c .before .before .before .before .before .before .before .before .before .before .before .before .before .before .before .take-table .kept .1 .1 .1 .0) (c .before .before .before .before .before .before .before .before .before .before .before .before .before .before .before .take-table .kept .1 .1 .1 .1 .0) (c .before .before .before .before .before .before .before .before .before .before .before .before .before .before .before .take-table .kept .1 .1 .1 .1 .1 .0)) in list-asked (known .ready) (known .head-is) (known .count-is) long
 
 enum-known-taken-2 : tie.Need-enum-known-taken-2
 enum-known-taken-2 c = search needs

@@ -1,8 +1,9 @@
 -- `take_table` meets its contract: short arrays and refusals leave the order as it was; a whole table is ordered.
 use native.Mathlib.Omega.{arith}
 use mathlib.Core.Path.{_≡_, refl, sym, subst, _∙_}
-use mathlib.Core.Bool.{true}
+use mathlib.Core.Bool.{true, and-false}
 use lib.ListN.{length}
+use lib.Dec.{leb}
 use denote.Ref.{now}
 use borrow.Author.Tests.{le-leb, lt-leb}
 use Rattle.drawing.specs.Reading.{arraysOf}
@@ -28,7 +29,7 @@ returns-2 c =
     let a = c .before .before .before .before .before .before .before .before .before .args in
     let s = now (a .table) in
     let arrays = arraysOf (now (a .fan)) (now (a .count)) (now (a .rows)) (now (a .outputs)) in
-    Takes.short (simp (le-leb 192 (length (now (a .order))) (omega arith), lt-leb 192 (length (now (a .marks))) (omega arith))) refl refl refl refl
+    Takes.short (simp (lt-leb 192 (length (now (a .marks))) (omega arith), and-false (leb 192 (length (now (a .order)))))) refl refl refl refl
 
 -- src/lib.rt:61:9
 read-requires : tie.Need-read-requires
@@ -47,7 +48,7 @@ order-table-requires c κs =
     let whole = sym (c .before .before .before .before .before .before .before .before .before .before .before .before .before .before .before .read .ensures .reply) ∙ c .before .before .before .before .before .reply .given .1 in
     let room = long-enough arrays (read-whole arrays s _ _ whole .0) in
     let kept = c .before .before .before .before .before .before .before .before .before .before .before .before .before .before .before .read .kept in
-    whole-room arrays s _ _ whole (c .before .before .before .before .before .before .before .before .before .before .before .before .before .before .before .read .ensures .arrays) (omega (arith, room .fan, kept .1 .0)) (omega (arith, room .count, kept .1 .1 .0)) (now (a .order)) (now (a .marks)) (c .before .before .before .before .before .before .before .before .before .before .before .before .before .before .before .before .before .before .before .before .before .if1 .left) (c .before .before .before .before .before .before .before .before .before .before .before .before .before .before .before .before .before .before .before .before .if2 .left)
+    whole-room arrays s _ _ whole (c .before .before .before .before .before .before .before .before .before .before .before .before .before .before .before .read .ensures .arrays) (omega (arith, room .fan, kept .1 .0)) (omega (arith, room .count, kept .1 .1 .0)) (now (a .order)) (now (a .marks)) (omega (arith, c .before .before .before .before .before .before .before .before .before .before .before .before .before .before .before .before .before .before .before .before .before .if1 .left)) (c .before .before .before .before .before .before .before .before .before .before .before .before .before .before .before .before .before .before .before .before .if2 .left)
 
 -- src/lib.rt:64:26
 enum-known-reply-2 : tie.Need-enum-known-reply-2
@@ -87,7 +88,7 @@ returns-3 c =
     let a = c .before .before .before .before .before .before .before .before .before .before .before .before .before .before .before .before .before .before .before .before .before .before .before .before .before .before .before .before .before .before .before .before .before .before .args in
     let s = now (a .table) in
     let arrays = arraysOf (now (a .fan)) (now (a .count)) (now (a .rows)) (now (a .outputs)) in
-    let long : roomy (now (a .order)) (now (a .marks)) ≡ true = simp (le-leb 192 (length (now (a .order))) (c .before .before .before .before .before .before .before .before .before .before .before .before .before .before .before .before .before .before .before .before .before .before .before .before .before .before .if1 .left), le-leb 192 (length (now (a .marks))) (c .before .before .before .before .before .before .before .before .before .before .before .before .before .before .before .before .before .before .before .before .before .before .before .before .before .if2 .left)) in
+    let long : roomy (now (a .order)) (now (a .marks)) ≡ true = simp (le-leb 192 (length (now (a .order))) (omega (arith, c .before .before .before .before .before .before .before .before .before .before .before .before .before .before .before .before .before .before .before .before .before .before .before .before .before .before .if1 .left)), le-leb 192 (length (now (a .marks))) (c .before .before .before .before .before .before .before .before .before .before .before .before .before .before .before .before .before .before .before .before .before .before .before .before .before .if2 .left)) in
     let whole = sym (c .before .before .before .before .before .before .before .before .before .before .before .before .before .before .before .before .before .before .before .before .read .ensures .reply) ∙ c .before .before .before .before .before .before .before .before .before .before .reply .given .1 in
     let room = long-enough arrays (read-whole arrays s _ _ whole .0) in
     let kept = c .before .before .before .before .before .before .before .before .before .before .before .before .before .before .before .before .before .before .before .before .read .kept in
@@ -115,7 +116,7 @@ returns-4 c =
     let a = c .before .before .before .before .before .before .before .before .before .before .before .before .before .before .before .before .before .before .before .before .before .before .before .before .before .args in
     let s = now (a .table) in
     let arrays = arraysOf (now (a .fan)) (now (a .count)) (now (a .rows)) (now (a .outputs)) in
-    let long : roomy (now (a .order)) (now (a .marks)) ≡ true = simp (le-leb 192 (length (now (a .order))) (c .before .before .before .before .before .before .before .before .before .before .before .before .before .before .before .before .before .if1 .left), le-leb 192 (length (now (a .marks))) (c .before .before .before .before .before .before .before .before .before .before .before .before .before .before .before .before .if2 .left)) in
+    let long : roomy (now (a .order)) (now (a .marks)) ≡ true = simp (le-leb 192 (length (now (a .order))) (omega (arith, c .before .before .before .before .before .before .before .before .before .before .before .before .before .before .before .before .before .if1 .left)), le-leb 192 (length (now (a .marks))) (c .before .before .before .before .before .before .before .before .before .before .before .before .before .before .before .before .if2 .left)) in
     Takes.long long (c .before .before .before .before .before .before .before .before .before .before .before .read .ensures .arrays) (subst (After s (now (a .order)) (now (a .marks)) _ (now (a .order)) (now (a .marks))) (sym (c .before .reply2 .given .1) ∙ c .before .before .before .before .before .before .before .before .before .before .before .read .ensures .reply) (After.refused refl refl refl))
 
 -- src/lib.rt:44:1
@@ -140,7 +141,7 @@ returns-5 c =
     let a = c .before .before .before .before .before .before .before .before .before .before .before .before .before .before .before .before .before .before .before .before .before .before .before .before .args in
     let s = now (a .table) in
     let arrays = arraysOf (now (a .fan)) (now (a .count)) (now (a .rows)) (now (a .outputs)) in
-    let long : roomy (now (a .order)) (now (a .marks)) ≡ true = simp (le-leb 192 (length (now (a .order))) (c .before .before .before .before .before .before .before .before .before .before .before .before .before .before .before .before .if1 .left), le-leb 192 (length (now (a .marks))) (c .before .before .before .before .before .before .before .before .before .before .before .before .before .before .before .if2 .left)) in
+    let long : roomy (now (a .order)) (now (a .marks)) ≡ true = simp (le-leb 192 (length (now (a .order))) (omega (arith, c .before .before .before .before .before .before .before .before .before .before .before .before .before .before .before .before .if1 .left)), le-leb 192 (length (now (a .marks))) (c .before .before .before .before .before .before .before .before .before .before .before .before .before .before .before .if2 .left)) in
     Takes.long long (c .before .before .before .before .before .before .before .before .before .before .read .ensures .arrays) (subst (After s (now (a .order)) (now (a .marks)) _ (now (a .order)) (now (a .marks))) (sym (c .enum-told .given .1) ∙ c .before .before .before .before .before .before .before .before .before .before .read .ensures .reply) (After.lent refl refl refl))
 
 pub take-table-spec : {M : Type 1} → statement M

@@ -43,7 +43,7 @@ loop-again : tie.Need-loop-again Inv-loop μ-loop
 loop-again c =
     let p = (c .before .before .before .before .before .before .before .before .before .pre) in
     let l = c .before .before .before .loop in
-    (omega arith, ends-turn (l .inv .1) (p .fed (l .d) (c .before .before .loop-test .taken)) (⊎-elim (λ w. inl (w .0 .taken, rw (w .5) (w .2 .kept .1 .1 .1 .1 .0), rw (w .5) (w .2 .ensures))) (λ w. inr (w .0 .left, w .1)) (c .if1 .came)))
+    (omega arith, ends-turn (l .inv .1) (p .fed (l .d) (c .before .before .loop-test .taken)) (⊎-elim (λ w. inl (omega (arith, w .0 .taken), rw (w .5) (w .2 .kept .1 .1 .1 .1 .0), rw (w .5) (w .2 .ensures))) (λ w. inr (λ e. omega (arith, e, w .0 .left), w .1)) (c .if1 .came)))
 
 same-length : tie.Need-same-length Inv-loop μ-loop
 same-length c = c .before .loop .inv .1 .size

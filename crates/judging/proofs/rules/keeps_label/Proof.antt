@@ -1,4 +1,5 @@
 -- `keeps_label` meets its contract: the greatest label of the leaves, then p.
+use native.Mathlib.Omega.{arith}
 use mathlib.Core.Path.{refl}
 use Prim.Native.Nat.{_*_}
 use denote.Ref.{now}
@@ -49,12 +50,12 @@ add-if1 c = search needs
 returns : tie.Need-returns
 returns c =
     let a = c .before .before .before .before .before .before .before .before .before .before .before .args in
-    label-unshown (a .p .depth) (a .gate .id) (c .before .before .before .label-of .ensures) (rw (rest-whole (now (a .leaves)) (6 * a .gate .id)) at (c .before .before .before .before .depth .ensures)) (c .if1 .taken)
+    label-unshown (a .p .depth) (a .gate .id) (c .before .before .before .label-of .ensures) (rw (rest-whole (now (a .leaves)) (6 * a .gate .id)) at (c .before .before .before .before .depth .ensures)) (λ e. omega (arith, e, c .if1 .taken))
 
 returns-2 : tie.Need-returns-2
 returns-2 c =
     let a = c .before .before .before .before .before .before .before .before .before .before .before .before .before .before .args in
-    label-at-peak (a .p .depth) (a .gate .id) (c .before .before .before .before .before .before .label-of .ensures) (rw (rest-whole (now (a .leaves)) (6 * a .gate .id)) at (c .before .before .before .before .before .before .before .depth .ensures)) (c .before .before .before .if1 .left) (c .if2 .taken)
+    label-at-peak (a .p .depth) (a .gate .id) (c .before .before .before .before .before .before .label-of .ensures) (rw (rest-whole (now (a .leaves)) (6 * a .gate .id)) at (c .before .before .before .before .before .before .before .depth .ensures)) (omega (arith, c .before .before .before .if1 .left)) (c .if2 .taken)
 
 cast-result : tie.Need-cast-result
 cast-result c = search needs
@@ -68,7 +69,7 @@ add-result c = search needs
 returns-3 : tie.Need-returns-3
 returns-3 c =
     let a = c .before .before .before .before .before .before .before .before .before .before .before .before .before .before .before .before .args in
-    label-above (a .p .depth) (a .gate .id) (c .before .before .before .before .before .before .before .before .label-of .ensures) (rw (rest-whole (now (a .leaves)) (6 * a .gate .id)) at (c .before .before .before .before .before .before .before .before .before .depth .ensures)) (c .before .before .before .before .before .if1 .left) (c .before .before .if2 .left) refl
+    label-above (a .p .depth) (a .gate .id) (c .before .before .before .before .before .before .before .before .label-of .ensures) (rw (rest-whole (now (a .leaves)) (6 * a .gate .id)) at (c .before .before .before .before .before .before .before .before .before .depth .ensures)) (omega (arith, c .before .before .before .before .before .if1 .left)) (c .before .before .if2 .left) refl
 
 pub keeps-label-spec : {M : Type 1} → statement M
 keeps-label-spec =

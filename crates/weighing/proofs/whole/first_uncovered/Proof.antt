@@ -26,7 +26,7 @@ cast-t11 : tie.Need-cast-t11 Inv-loop μ-loop
 cast-t11 c = omega (arith, (c .before .before .before .before .before .pre) .ids)
 
 returns : tie.Need-returns Inv-loop μ-loop
-returns c = Compared.differ (c .before .before .before .before .loop .inv .0) (c .before .before .before .loop-test .taken) (c .before .before .before .before .loop .inv .1) (c .if1 .taken)
+returns c = Compared.differ (c .before .before .before .before .loop .inv .0) (c .before .before .before .loop-test .taken) (c .before .before .before .before .loop .inv .1) (λ e. omega (arith, e, c .if1 .taken))
 
 add-v : tie.Need-add-v Inv-loop μ-loop
 add-v c = omega (arith, (c .before .before .before .before .before .pre) .ids)
@@ -35,7 +35,7 @@ loop-less : tie.Need-loop-less Inv-loop μ-loop
 loop-less c = omega arith
 
 loop-again : tie.Need-loop-again Inv-loop μ-loop
-loop-again c = let a = c .before .before .before .before .before .args in (omega (arith, c .before .before .before .before .loop .inv .0), same-more (a .inputs) (now (a .roots)) (now (a .wanted)) (c .before .before .before .before .loop .v) (c .before .before .before .before .loop .inv .1) (c .if1 .left))
+loop-again c = let a = c .before .before .before .before .before .args in (omega (arith, c .before .before .before .before .loop .inv .0), same-more (a .inputs) (now (a .roots)) (now (a .wanted)) (c .before .before .before .before .loop .v) (c .before .before .before .before .loop .inv .1) (omega (arith, c .if1 .left)))
 
 returns-2 : tie.Need-returns-2 Inv-loop μ-loop
 returns-2 c = Compared.same (λ w above below. c .before .loop .inv .1 w above (omega (arith, c .loop-test .left)))

@@ -1,4 +1,5 @@
 -- `judge_whole` meets its contract.
+use native.Mathlib.Omega.{arith}
 use borrow.Author.Tests.{not-true, not-false}
 use denote.Ref.{now}
 use Rattle.weighing.proofs.Deep.{cover-asked, labels-asked, whole-cover, deep-asked, whole-not-reached, whole-not-labelled, whole-kept}
@@ -46,7 +47,7 @@ same-length-6 : tie.Need-same-length-6
 same-length-6 c = search needs
 
 returns-3 : tie.Need-returns-3
-returns-3 c = let a = c .before .before .before .before .before .before .before .before .before .before .before .before .before .before .before .before .before .before .before .before .before .before .before .before .before .before .before .before .before .args in whole-not-labelled (a .inputs) (a .nodes) (now (a .order)) (now (a .roots)) (now (a .leaves)) (now (a .sizes)) (now (a .outputs)) (a .number) (now (a .labels)) (now (a .wanted)) (now (a .depths)) (c .before .before .before .before .before .before .before .before .before .before .before .before .before .before .before .before .before .before .before .before .before .before .before .before .before .before .before .before .before .pre) (c .before .before .before .before .before .before .before .before .before .before .before .before .before .before .before .before .before .before .before .clear-numbers .ensures) (c .before .before .before .before .before .before .before .before .before .before .before .before .before .before .before .judge-wanted .ensures) (c .before .before .before .before .before .before .before .before .before .before .before .before .is-kept .ensures .yes (not-false _ (c .before .before .before .before .before .before .before .before .before .before .before .if1 .left))) (c .before .before .before .before .before .before .before .before .before .cover-depth .ensures) (a .head .depth) (c .before .before .before .depth .ensures) (c .if3 .taken)
+returns-3 c = let a = c .before .before .before .before .before .before .before .before .before .before .before .before .before .before .before .before .before .before .before .before .before .before .before .before .before .before .before .before .before .args in whole-not-labelled (a .inputs) (a .nodes) (now (a .order)) (now (a .roots)) (now (a .leaves)) (now (a .sizes)) (now (a .outputs)) (a .number) (now (a .labels)) (now (a .wanted)) (now (a .depths)) (c .before .before .before .before .before .before .before .before .before .before .before .before .before .before .before .before .before .before .before .before .before .before .before .before .before .before .before .before .before .pre) (c .before .before .before .before .before .before .before .before .before .before .before .before .before .before .before .before .before .before .before .clear-numbers .ensures) (c .before .before .before .before .before .before .before .before .before .before .before .before .before .before .before .judge-wanted .ensures) (c .before .before .before .before .before .before .before .before .before .before .before .before .is-kept .ensures .yes (not-false _ (c .before .before .before .before .before .before .before .before .before .before .before .if1 .left))) (c .before .before .before .before .before .before .before .before .before .cover-depth .ensures) (a .head .depth) (c .before .before .before .depth .ensures) (λ e. omega (arith, e, c .if3 .taken, c .before .before .before .before .if2 .left))
 
 same-length-7 : tie.Need-same-length-7
 same-length-7 c = search needs
@@ -55,7 +56,7 @@ same-length-8 : tie.Need-same-length-8
 same-length-8 c = search needs
 
 returns-4 : tie.Need-returns-4
-returns-4 c = let a = c .before .before .before .before .before .before .before .before .before .before .before .before .before .before .before .before .before .before .before .before .before .before .before .before .before .before .before .before .before .args in whole-kept (a .inputs) (a .nodes) (now (a .order)) (now (a .roots)) (now (a .leaves)) (now (a .sizes)) (now (a .outputs)) (a .number) (now (a .labels)) (now (a .wanted)) (now (a .depths)) (c .before .before .before .before .before .before .before .before .before .before .before .before .before .before .before .before .before .before .before .before .before .before .before .before .before .before .before .before .before .pre) (c .before .before .before .before .before .before .before .before .before .before .before .before .before .before .before .before .before .before .before .clear-numbers .ensures) (c .before .before .before .before .before .before .before .before .before .before .before .before .before .before .before .judge-wanted .ensures) (c .before .before .before .before .before .before .before .before .before .before .before .before .is-kept .ensures .yes (not-false _ (c .before .before .before .before .before .before .before .before .before .before .before .if1 .left))) (c .before .before .before .before .before .before .before .before .before .cover-depth .ensures) (a .head .depth) (c .before .before .before .depth .ensures) (c .before .before .before .before .if2 .left) (c .if3 .left)
+returns-4 c = let a = c .before .before .before .before .before .before .before .before .before .before .before .before .before .before .before .before .before .before .before .before .before .before .before .before .before .before .before .before .before .args in whole-kept (a .inputs) (a .nodes) (now (a .order)) (now (a .roots)) (now (a .leaves)) (now (a .sizes)) (now (a .outputs)) (a .number) (now (a .labels)) (now (a .wanted)) (now (a .depths)) (c .before .before .before .before .before .before .before .before .before .before .before .before .before .before .before .before .before .before .before .before .before .before .before .before .before .before .before .before .before .pre) (c .before .before .before .before .before .before .before .before .before .before .before .before .before .before .before .before .before .before .before .clear-numbers .ensures) (c .before .before .before .before .before .before .before .before .before .before .before .before .before .before .before .judge-wanted .ensures) (c .before .before .before .before .before .before .before .before .before .before .before .before .is-kept .ensures .yes (not-false _ (c .before .before .before .before .before .before .before .before .before .before .before .if1 .left))) (c .before .before .before .before .before .before .before .before .before .cover-depth .ensures) (a .head .depth) (c .before .before .before .depth .ensures) (c .before .before .before .before .if2 .left) (omega (arith, c .if3 .left))
 
 pub judge-whole-spec : {M : Type 1} → statement M
 judge-whole-spec =
