@@ -1,5 +1,7 @@
 //! The mapper and the inspector of Ploverdrift, behind a safe face. What they promise is proved
-//! for all bytes (docs/PROMISES.md, plover); that they are declared here as they are is not.
+//! for all bytes (docs/PROMISES.md, plover); that they are declared here as they are is not. The
+//! tests outside Rattle call the library through this package too, so that these declarations are
+//! compared along with it.
 
 use std::fmt;
 
@@ -44,12 +46,32 @@ pub enum Mapping {
     Refused(Refusal),
 }
 
+impl Mapping {
+    /// The sheet's length, for a caller who hands refusals on.
+    pub fn length(self) -> Result<usize, Refusal> {
+        match self {
+            Mapping::Mapped(length) => Ok(length),
+            Mapping::Refused(refusal) => Err(refusal),
+        }
+    }
+}
+
 /// The inspector's reply.
 #[derive(Clone, Copy, Debug, PartialEq, Eq)]
 pub enum Inspection {
     /// The sheet's depth.
     Accepted(u32),
     Refused(Refusal),
+}
+
+impl Inspection {
+    /// The sheet's depth, for a caller who hands refusals on.
+    pub fn depth(self) -> Result<u32, Refusal> {
+        match self {
+            Inspection::Accepted(depth) => Ok(depth),
+            Inspection::Refused(refusal) => Err(refusal),
+        }
+    }
 }
 
 /// The number in the upper half of a word, and the place in the lower.
@@ -79,5 +101,27 @@ pub fn inspect(table: &[u8], sheet: &[u8]) -> Inspection {
     match reply.number {
         0 => Inspection::Accepted(reply.place),
         _ => Inspection::Refused(reply),
+    }
+}
+
+#[cfg(test)]
+mod tests {
+    use super::*;
+
+    fn refusal(number: u32, place: u32) -> Refusal {
+        Refusal { number, place }
+    }
+
+    #[test]
+    fn a_word_is_number_and_place() {
+        assert_eq!(halves(83), refusal(0, 83));
+        assert_eq!(halves(7 << 32 | 2), refusal(7, 2));
+        assert_eq!(halves(u64::MAX), refusal(u32::MAX, u32::MAX));
+    }
+
+    #[test]
+    fn no_bytes_are_torn() {
+        assert_eq!(map(&[], &mut []), Mapping::Refused(refusal(1, 0)));
+        assert_eq!(inspect(&[], &[]).depth(), Err(refusal(1, 0)));
     }
 }

@@ -6,9 +6,9 @@ pub mod edges;
 mod lies;
 pub mod long;
 
+use crate::library::LINKED;
 use crate::mapped::Mapped;
 use crate::mapping::damaged_table;
-use crate::plover::LINKED;
 use crate::random::Random;
 use crate::reading::damage as table_damage;
 use crate::word::{described, Reply};

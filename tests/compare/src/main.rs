@@ -8,11 +8,11 @@ mod drawing;
 mod drawn;
 mod inspecting;
 mod labelling;
+mod library;
 mod mapped;
 mod mapping;
 #[cfg(test)]
 mod mutants;
-mod plover;
 mod probe;
 mod random;
 mod reading;

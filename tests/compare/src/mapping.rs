@@ -5,7 +5,7 @@ pub mod comparison;
 pub mod known;
 pub mod sheet;
 
-use crate::plover::LINKED;
+use crate::library::LINKED;
 use crate::random::Random;
 use crate::reading::damage::{damaged, telling_bytes};
 use crate::reading::edges;

@@ -5,35 +5,35 @@
 mod inspectors;
 mod mappers;
 
-use crate::plover::Library;
+use crate::library::Library;
 use crate::word::Reply;
+use second::inspect::inspect;
 use second::sheet::Sheet;
-use second::{inspect, sheet, table};
+use second::{sheet, table, Refused};
 
 /// The second implementation with the library's faces.
 const STAND_IN: Library = Library { map: &map, inspect: &inspect };
 
-fn word(reply: Reply) -> u64 {
+fn map(table: &[u8], buffer: &mut [u8]) -> Reply {
+    let bytes = sheet::map(table, buffer.len())?;
+    buffer[..bytes.len()].copy_from_slice(&bytes);
+    Ok(bytes.len())
+}
+
+/// The reply, but for refusals of this number.
+fn changed(reply: Reply, number: u32, change: fn(Refused) -> Reply) -> Reply {
     match reply {
-        Ok(low) => low as u64,
-        Err((number, place)) => u64::from(number) << 32 | place as u64,
+        Err(refused) if refused.0 == number => change(refused),
+        reply => reply,
     }
 }
 
-fn map(table: &[u8], buffer: &mut [u8]) -> u64 {
-    let reply = sheet::map(table, buffer.len()).map(|bytes| {
-        buffer[..bytes.len()].copy_from_slice(&bytes);
-        bytes.len()
-    });
-    word(reply)
-}
-
-fn inspect(table: &[u8], sheet: &[u8]) -> u64 {
-    word(inspect::inspect(table, sheet))
+fn a_place_further((number, place): Refused) -> Reply {
+    Err((number, place + 1))
 }
 
 /// Maps, and changes the sheet.
-fn map_changed(table: &[u8], buffer: &mut [u8], change: impl Fn(&mut Sheet)) -> u64 {
+fn map_changed(table: &[u8], buffer: &mut [u8], change: impl Fn(&mut Sheet)) -> Reply {
     let made = sheet::map(table, buffer.len());
     let read = table::read(table).table();
     match (made, read) {
@@ -42,7 +42,7 @@ fn map_changed(table: &[u8], buffer: &mut [u8], change: impl Fn(&mut Sheet)) -> 
             change(&mut sheet);
             let bytes = sheet.bytes();
             buffer[..bytes.len()].copy_from_slice(&bytes);
-            bytes.len() as u64
+            Ok(bytes.len())
         }
         _ => map(table, buffer),
     }

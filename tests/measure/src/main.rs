@@ -10,7 +10,6 @@ mod bounds;
 mod drawings;
 mod meter;
 mod outside;
-mod plover;
 mod process;
 mod scratch;
 mod stack;

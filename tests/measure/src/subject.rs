@@ -1,6 +1,5 @@
 //! What is measured: `map` and `inspect`, of the static library and of the ordinary program.
 
-use crate::plover;
 use plain::mapping::SHEET_ROOM;
 
 #[derive(Clone, Copy, Debug, PartialEq, Eq)]
@@ -43,7 +42,7 @@ impl Subject {
 /// The library's sheet of a table, which both inspectors are given.
 pub fn sheet_of(table: &[u8]) -> Result<Vec<u8>, plover::Refusal> {
     let mut sheet = vec![0; SHEET_ROOM];
-    let length = plover::map(table, &mut sheet)?;
+    let length = plover::map(table, &mut sheet).length()?;
     sheet.truncate(length);
     Ok(sheet)
 }
@@ -76,13 +75,18 @@ impl Job {
 /// byte, evidence too, which only the order of the search decides; and it finds the same depth.
 pub fn are_alike(table: &[u8]) -> bool {
     let [mut ours, mut theirs] = [vec![0; SHEET_ROOM], vec![0; SHEET_ROOM]];
-    match (plover::map(table, &mut ours), plain::map(table, &mut theirs)) {
+    match (plover::map(table, &mut ours).length(), plain::map(table, &mut theirs)) {
         (Ok(length), Ok(plain_length)) if length == plain_length && ours == theirs => {
-            let depth = plover::inspect(table, &ours[..length]).ok();
+            let depth = depth_of(table, &ours[..length]);
             depth.is_some() && depth == plain::inspect(table, &ours[..length]).ok()
         }
         _ => false,
     }
+}
+
+/// The depth that the library's inspector accepts a sheet with.
+fn depth_of(table: &[u8], sheet: &[u8]) -> Option<usize> {
+    plover::inspect(table, sheet).depth().map(|depth| depth as usize).ok()
 }
 
 /// Callgrind counts between this function's entry and its return, and knows it by its name.
@@ -90,8 +94,8 @@ pub fn are_alike(table: &[u8]) -> bool {
 #[inline(never)]
 pub fn measured_call(subject: Subject, table: &[u8], sheet: &mut [u8]) -> Option<usize> {
     match (subject.maker, subject.task) {
-        (Maker::Proved, Task::Map) => plover::map(table, sheet).ok(),
-        (Maker::Proved, Task::Inspect) => plover::inspect(table, sheet).ok(),
+        (Maker::Proved, Task::Map) => plover::map(table, sheet).length().ok(),
+        (Maker::Proved, Task::Inspect) => depth_of(table, sheet),
         (Maker::Plain, Task::Map) => plain::map(table, sheet).ok(),
         (Maker::Plain, Task::Inspect) => plain::inspect(table, sheet).ok(),
     }

@@ -3,7 +3,6 @@
 use crate::blif;
 use crate::drawings::{careless, ladders, usual, Named};
 use crate::meter::{nanoseconds, Meter};
-use crate::plover;
 use crate::scratch::Scratch;
 use crate::stack::stack_of;
 use crate::subject::{are_alike, sheet_of, Maker, Subject, Task};
@@ -124,10 +123,10 @@ fn stacks(drawing: &Named) -> Result<[usize; 2], String> {
     let buffer = std::sync::Mutex::new(vec![0; SHEET_ROOM]);
     let map = stack_of(|| {
         let mut buffer = buffer.lock().expect("no call panics");
-        let _ = plover::map(&drawing.table, &mut buffer);
+        plover::map(&drawing.table, &mut buffer);
     });
     let inspect = stack_of(|| {
-        let _ = plover::inspect(&drawing.table, &sheet);
+        plover::inspect(&drawing.table, &sheet);
     });
     Ok([map, inspect])
 }

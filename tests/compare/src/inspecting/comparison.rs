@@ -1,10 +1,10 @@
 //! One ruling by both sides.
 
 use crate::hexadecimal;
+use crate::library::Library;
 use crate::mapped::Mapped;
-use crate::plover::Library;
 use crate::tally::Tally;
-use crate::word::{described, reply, Reply};
+use crate::word::{described, Reply};
 use second::graph::Graph;
 use second::inspect::{inspect, judge};
 use second::random::Random;
@@ -45,7 +45,7 @@ impl<'a> Comparison<'a> {
 
     /// A sheet with the ruling that is due to it.
     pub fn check_due(&mut self, table: &[u8], sheet: &[u8], due: Reply) -> Result<(), String> {
-        let found = reply((self.library.inspect)(table, sheet));
+        let found = (self.library.inspect)(table, sheet);
         self.tally.count(due);
         if found == due {
             return Ok(());

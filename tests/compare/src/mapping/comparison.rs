@@ -4,10 +4,10 @@
 use super::buffer::{Buffer, LONGEST};
 use super::sheet;
 use crate::hexadecimal;
+use crate::library::Library;
 use crate::mapped::Mapped;
-use crate::plover::Library;
 use crate::tally::Tally;
-use crate::word::{described, reply, Reply};
+use crate::word::{described, Reply};
 use second::graph::Graph;
 use second::inspect::inspect;
 use second::random::Random;
@@ -67,7 +67,7 @@ impl<'a> Comparison<'a> {
     pub fn check(&mut self, table: &[u8], length: usize) -> Result<Outcome, String> {
         let due = due(table, length);
         let lent = self.buffer.lend(length, &mut self.random);
-        let found = reply((self.library.map)(table, lent));
+        let found = (self.library.map)(table, lent);
         self.tally.count(due.as_ref().map(|_| 0).map_err(|&refused| refused));
         let outcome = match due {
             Ok(graph) => self.check_mapped(graph, found).map(Ok),
@@ -100,7 +100,7 @@ impl<'a> Comparison<'a> {
     /// Each inspector accepts the sheet of each mapper.
     fn check_exchange(&self, mapped: &Mapped, bytes: &[u8]) -> Result<(), String> {
         let others = mapped.sheet.bytes();
-        let by_library = |sheet: &[u8]| reply((self.library.inspect)(&mapped.bytes, sheet));
+        let by_library = |sheet: &[u8]| (self.library.inspect)(&mapped.bytes, sheet);
         let replies = [
             ("the library's sheet by the library", by_library(bytes)),
             ("the library's sheet by the second", inspect(&mapped.bytes, bytes)),

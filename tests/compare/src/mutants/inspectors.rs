@@ -1,15 +1,16 @@
 //! Wrong inspectors.
 
-use super::{assert_noticed, inspect, STAND_IN};
+use super::{a_place_further, assert_noticed, changed, inspect, STAND_IN};
 use crate::inspecting::comparison::Comparison;
 use crate::inspecting::{by_hand, damaged_sheets, damaged_tables, long, other_sheets, told_lies};
-use crate::plover::Library;
-use crate::word::reply;
+use crate::library::Library;
+use crate::word::Reply;
 use second::evidence::is_due;
 use second::graph::Graph;
 use second::labels::d;
 use second::nodes::NodeSet;
 use second::sheet::{mapped, read, Sheet};
+use second::Refused;
 
 /// What the drawn sheets are compared by, without those that are written down.
 fn drawn(library: Library) -> Result<(), String> {
@@ -25,7 +26,7 @@ fn written(library: Library) -> Result<(), String> {
 }
 
 /// Both of the drawn sheets and of those that are written down notice it.
-fn notices(wrong: &dyn Fn(&[u8], &[u8]) -> u64) {
+fn notices(wrong: &dyn Fn(&[u8], &[u8]) -> Reply) {
     let library = Library { inspect: wrong, ..STAND_IN };
     assert_noticed(drawn(library), "ruling:");
     assert_noticed(written(library), "ruling:");
@@ -39,9 +40,9 @@ fn the_stand_in_passes() {
 
 #[test]
 fn accepts_all_and_refuses_all() {
-    notices(&|_, _| 1);
-    notices(&|_, _| 21 << 32);
-    notices(&|table, sheet| inspect(table, sheet).max(27 << 32));
+    notices(&|_, _| Ok(1));
+    notices(&|_, _| Err((21, 0)));
+    notices(&|table, sheet| inspect(table, sheet).and(Err((27, 0))));
 }
 
 /// Sheets that are true and not the mapper's: with other evidence, or other cuts and LUTs.
@@ -49,12 +50,11 @@ fn accepts_all_and_refuses_all() {
 fn accepts_the_mappers_sheets_alone() {
     let refusing = |is_own: fn(&Sheet, &Sheet) -> bool| {
         notices(&|table, bytes| {
-            let word = inspect(table, bytes);
-            let graph = Graph::read(table);
-            let sheet = graph.and_then(|graph| Ok((read(&graph.table, bytes)?, mapped(&graph))));
-            match sheet {
-                Ok((sheet, own)) if word >> 32 == 0 && !is_own(&sheet, &own) => 27 << 32,
-                _ => word,
+            let depth = inspect(table, bytes)?;
+            let graph = Graph::read(table)?;
+            match is_own(&read(&graph.table, bytes)?, &mapped(&graph)) {
+                true => Ok(depth),
+                false => Err((27, 0)),
             }
         });
     };
@@ -66,35 +66,27 @@ fn accepts_the_mappers_sheets_alone() {
 
 #[test]
 fn a_wrong_depth() {
-    notices(&|table, sheet| match inspect(table, sheet) {
-        word if word >> 32 == 0 => word + 1,
-        word => word,
-    });
+    notices(&|table, sheet| inspect(table, sheet).map(|depth| depth + 1));
 }
 
 /// Each number that is given at another place, as another number, or not at all.
 #[test]
 fn wrong_numbers_and_places() {
     for number in 21..=31 {
-        let instead = |other: fn(u64) -> u64| {
-            notices(&|table, sheet| match inspect(table, sheet) {
-                word if word >> 32 == number => other(word),
-                word => word,
-            });
+        let instead = |other: fn(Refused) -> Reply| {
+            notices(&|table, sheet| changed(inspect(table, sheet), number, other));
         };
-        instead(|word| word + 1);
-        instead(|word| word ^ 1 << 40);
-        instead(|_| 1);
+        instead(a_place_further);
+        instead(|(_, place)| Err((32, place)));
+        instead(|_| Ok(1));
     }
 }
 
 #[test]
 fn wrong_numbers_and_places_of_tables() {
     for number in 1..=7 {
-        let wrong = |table: &[u8], sheet: &[u8]| match inspect(table, sheet) {
-            word if word >> 32 == number => word + 1,
-            word => word,
-        };
+        let wrong =
+            |table: &[u8], sheet: &[u8]| changed(inspect(table, sheet), number, a_place_further);
         let mut comparison = Comparison::new(Library { inspect: &wrong, ..STAND_IN }, 1);
         assert_noticed(damaged_tables(&mut comparison, 400), "ruling:");
     }
@@ -102,7 +94,9 @@ fn wrong_numbers_and_places_of_tables() {
 
 #[test]
 fn places_of_two_bytes() {
-    let wrong = |table: &[u8], sheet: &[u8]| inspect(table, sheet) & 0xFFFF_FFFF_0000_FFFF;
+    let wrong = |table: &[u8], sheet: &[u8]| {
+        inspect(table, sheet).map_err(|(number, place)| (number, place & 0xFFFF))
+    };
     let mut comparison = Comparison::new(Library { inspect: &wrong, ..STAND_IN }, 1);
     assert_noticed(long::compare(&mut comparison), "ruling:");
 }
@@ -115,7 +109,7 @@ fn notices_after(change: fn(&Graph, &mut Sheet)) {
             Err(_) => return inspect(table, sheet),
         };
         match read(&graph.table, sheet) {
-            Ok(mut seen) if reply(inspect(table, sheet)).is_err() => {
+            Ok(mut seen) if inspect(table, sheet).is_err() => {
                 change(&graph, &mut seen);
                 inspect(table, &seen.bytes())
             }
@@ -169,11 +163,11 @@ fn broken(graph: &Graph, labels: &[usize], gate: usize, paths: &[Vec<usize>]) ->
 }
 
 /// The rulings but for one condition of evidence, which is not asked for.
-fn overlooking(condition: Condition, table: &[u8], sheet: &[u8]) -> u64 {
-    let word = inspect(table, sheet);
-    let gate = match reply(word) {
+fn overlooking(condition: Condition, table: &[u8], sheet: &[u8]) -> Reply {
+    let reply = inspect(table, sheet);
+    let gate = match reply {
         Err((27, gate)) => gate,
-        _ => return word,
+        _ => return reply,
     };
     let graph = Graph::read(table).expect("the table was read");
     let sheet = read(&graph.table, sheet).expect("the shape was good");
@@ -182,10 +176,9 @@ fn overlooking(condition: Condition, table: &[u8], sheet: &[u8]) -> u64 {
     let paths = &sheet.lines[gate - graph.table.inputs].paths;
     let is_overlooked =
         is_due(&graph, &labels, gate) && broken(&graph, &labels, gate, paths) == [condition];
-    if is_overlooked {
-        1
-    } else {
-        word
+    match is_overlooked {
+        true => Ok(1),
+        false => reply,
     }
 }
 

@@ -1,10 +1,11 @@
 //! Wrong mappers.
 
-use super::{assert_noticed, inspect, map, map_changed, STAND_IN};
+use super::{a_place_further, assert_noticed, changed, inspect, map, map_changed, STAND_IN};
+use crate::library::Library;
 use crate::mapped::Mapped;
 use crate::mapping::comparison::Comparison;
 use crate::mapping::{by_hand, damaged_tables, drawings, sheet};
-use crate::plover::Library;
+use crate::word::Reply;
 use second::drawings::named;
 use second::random::Random;
 use second::sheet::{Sheet, BUFFER_LIMIT};
@@ -17,15 +18,15 @@ fn run(library: Library) -> Result<(), String> {
     damaged_tables(&mut comparison, 400)
 }
 
-fn notices(map: &dyn Fn(&[u8], &mut [u8]) -> u64, words: &str) {
+fn notices(map: &dyn Fn(&[u8], &mut [u8]) -> Reply, words: &str) {
     assert_noticed(run(Library { map, ..STAND_IN }), words);
 }
 
 /// Maps, and then changes the reply or the buffer.
-fn notices_after(change: impl Fn(u64, &mut [u8]) -> u64, words: &str) {
+fn notices_after(change: impl Fn(Reply, &mut [u8]) -> Reply, words: &str) {
     let wrong = |table: &[u8], buffer: &mut [u8]| {
-        let word = map(table, buffer);
-        change(word, buffer)
+        let reply = map(table, buffer);
+        change(reply, buffer)
     };
     notices(&wrong, words);
 }
@@ -35,10 +36,6 @@ fn notices_changed(change: impl Fn(&mut Sheet), words: &str) {
     notices(&|table, buffer| map_changed(table, buffer, &change), words);
 }
 
-fn is_refusal(word: u64) -> bool {
-    word >> 32 != 0
-}
-
 #[test]
 fn the_stand_in_passes() {
     assert_eq!(run(STAND_IN), Ok(()));
@@ -46,25 +43,22 @@ fn the_stand_in_passes() {
 
 #[test]
 fn wrong_replies() {
-    notices_after(|_, _| 1 << 32, "reply:");
-    notices_after(|word, _| word + u64::from(!is_refusal(word)), "shape:");
-    notices_after(|word, _| word - u64::from(!is_refusal(word)), "buffer:");
-    notices_after(|word, _| if is_refusal(word) { 0 } else { word }, "reply:");
-    notices_after(|word, _| if is_refusal(word) { word } else { 1 << 31 }, "reply:");
+    notices_after(|_, _| Err((1, 0)), "reply:");
+    notices_after(|reply, _| reply.map(|length| length + 1), "shape:");
+    notices_after(|reply, _| reply.map(|length| length - 1), "buffer:");
+    notices_after(|reply, _| Ok(reply.unwrap_or(0)), "reply:");
+    notices_after(|reply, _| reply.map(|_| 1 << 31), "reply:");
     for number in 1..=8 {
-        let is_such = |word: u64| word >> 32 == number;
-        notices_after(|word, _| if is_such(word) { word + 1 } else { word }, "reply:");
-        notices_after(|word, _| if is_such(word) { word ^ 1 << 36 } else { word }, "reply:");
+        notices_after(|reply, _| changed(reply, number, a_place_further), "reply:");
+        notices_after(|reply, _| changed(reply, number, |(_, place)| Err((16, place))), "reply:");
     }
 }
 
 #[test]
 fn room_before_loop() {
     let wrong = |table: &[u8], buffer: &mut [u8]| match map(table, buffer) {
-        word if word >> 32 == u64::from(LOOP) && buffer.len() < BUFFER_LIMIT => {
-            u64::from(ROOM) << 32 | BUFFER_LIMIT as u64
-        }
-        word => word,
+        Err((LOOP, _)) if buffer.len() < BUFFER_LIMIT => Err((ROOM, BUFFER_LIMIT)),
+        reply => reply,
     };
     notices(&wrong, "reply:");
 }
@@ -73,12 +67,9 @@ fn room_before_loop() {
 fn one_fixed_sheet() {
     let bytes = Mapped::of_table(named("P1")).unwrap().sheet.bytes();
     let wrong = |table: &[u8], buffer: &mut [u8]| {
-        let word = map(table, buffer);
-        if is_refusal(word) {
-            return word;
-        }
+        map(table, buffer)?;
         buffer[..bytes.len()].copy_from_slice(&bytes);
-        bytes.len() as u64
+        Ok(bytes.len())
     };
     notices(&wrong, "shape:");
     notices(&|table, buffer| map(table, &mut buffer.to_vec()), "shape:");
@@ -92,24 +83,24 @@ fn bytes_that_are_not_left_alone() {
         }
     };
     for place in [0, 5, 48_000] {
-        let wrong = |word: u64, buffer: &mut [u8]| {
-            if is_refusal(word) {
+        let wrong = |reply: Reply, buffer: &mut [u8]| {
+            if reply.is_err() {
                 inverted(place, buffer);
             }
-            word
+            reply
         };
         notices_after(wrong, &format!("buffer: byte {place} "));
     }
-    let past_the_end = |word: u64, buffer: &mut [u8]| {
-        if !is_refusal(word) {
-            inverted(word as usize, buffer);
+    let past_the_end = |reply: Reply, buffer: &mut [u8]| {
+        if let Ok(length) = reply {
+            inverted(length, buffer);
         }
-        word
+        reply
     };
     notices_after(past_the_end, "buffer:");
-    let last_of_all = |word: u64, buffer: &mut [u8]| {
+    let last_of_all = |reply: Reply, buffer: &mut [u8]| {
         inverted(buffer.len().wrapping_sub(1), buffer);
-        word
+        reply
     };
     notices_after(last_of_all, "buffer:");
 }
@@ -176,10 +167,7 @@ fn wrong_values_and_parts_by_themselves() {
 
 #[test]
 fn inspectors_are_given_both_sheets() {
-    let deeper = |table: &[u8], sheet: &[u8]| match inspect(table, sheet) {
-        word if is_refusal(word) => word,
-        word => word + 1,
-    };
+    let deeper = |table: &[u8], sheet: &[u8]| inspect(table, sheet).map(|depth| depth + 1);
     let exchanged = "exchange: the library's sheet by the library";
     assert_noticed(run(Library { inspect: &deeper, ..STAND_IN }), exchanged);
     let with_paths_reversed = |table: &[u8], buffer: &mut [u8]| {
@@ -189,10 +177,10 @@ fn inspectors_are_given_both_sheets() {
     };
     let own_alone = |table: &[u8], sheet: &[u8]| {
         let own = &mut vec![0; BUFFER_LIMIT];
-        let length = with_paths_reversed(table, own) as usize;
+        let length = with_paths_reversed(table, own)?;
         match own[..length] == *sheet {
             true => inspect(table, sheet),
-            false => 27 << 32,
+            false => Err((27, 0)),
         }
     };
     let agree = Library { map: &with_paths_reversed, inspect: &own_alone };
