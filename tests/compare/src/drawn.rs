@@ -1,6 +1,6 @@
 //! Random whole gate tables. Nothing keeps their gates from loops, which reading does not mind.
 
-use crate::random::Random;
+use second::random::Random;
 use second::table::{row_mask, Gate, Table, INPUT_LIMIT, NODE_LIMIT, OUTPUT_LIMIT};
 
 /// A number from `least` to `limit`, at either end more often than an even draw has it.

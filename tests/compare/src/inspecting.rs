@@ -3,15 +3,15 @@
 mod bytes;
 pub mod comparison;
 pub mod edges;
+pub mod leaves;
 mod lies;
 pub mod long;
 
 use crate::library::LINKED;
 use crate::mapped::Mapped;
 use crate::mapping::damaged_table;
-use crate::random::Random;
 use crate::reading::damage as table_damage;
-use crate::word::{described, Reply};
+use crate::reply::{described, Reply};
 use crate::{careless, Size};
 use comparison::Comparison;
 use lies::LIES;
@@ -37,6 +37,7 @@ pub fn compare(size: Size, seed: u64) -> Result<(), String> {
     other_sheets(&mut comparison, size.of(1_000, 20_000))?;
     damaged_sheets(&mut comparison, size.of(700, 20_000))?;
     told_lies(&mut comparison, size.of(1_500, 40_000))?;
+    leaves::lists(&mut comparison, size.of(1_500, 25_000))?;
     damaged_tables(&mut comparison, size.of(3_000, 60_000))?;
     no_sheets(&mut comparison, size.of(1_000, 20_000))?;
     largest(&mut comparison, size.of(1, 20))?;
@@ -171,13 +172,12 @@ pub fn told_lies(comparison: &mut Comparison, count: usize) -> Result<(), String
 /// Damaged tables, with no sheet or with the sheet of the undamaged drawing.
 pub fn damaged_tables(comparison: &mut Comparison, count: usize) -> Result<(), String> {
     comparison.tally.begin("damaged tables");
-    let mut random = Random::new(comparison.random.word());
     for turn in 0..count {
-        let bytes = damaged_table(turn, &mut random, &mut comparison.random);
+        let bytes = damaged_table(turn, &mut comparison.random);
         comparison.check_bytes(&bytes, &[])?;
         let mapped = some_drawing(comparison);
         let sheet = mapped.sheet.bytes();
-        let damaged = table_damage::damaged(&mut random, &mapped.graph.table);
+        let damaged = table_damage::damaged(&mut comparison.random, &mapped.graph.table);
         comparison.check_bytes(&damaged, &sheet)?;
     }
     Ok(())
@@ -186,21 +186,21 @@ pub fn damaged_tables(comparison: &mut Comparison, count: usize) -> Result<(), S
 /// Bytes of no form, the sheet of another drawing, far too many bytes.
 fn no_sheets(comparison: &mut Comparison, count: usize) -> Result<(), String> {
     comparison.tally.begin("of no drawing");
-    let mut random = Random::new(comparison.random.word());
     let mut before = drawings::named("P1");
     for turn in 0..count {
         let mapped = some_drawing(comparison);
+        let random = &mut comparison.random;
         let length = random.below(120);
         let mut bytes = match turn % 3 {
-            0 => random.bytes(length),
+            0 => table_damage::any_bytes(random, length),
             1 => {
-                let more = table_damage::telling_bytes(&mut random, length);
+                let more = table_damage::telling_bytes(random, length);
                 [mapped.sheet.fields().remove(0), more].concat()
             }
             _ => mapped.sheet.bytes(),
         };
         if turn % 50 == 0 {
-            bytes.extend(random.bytes(70_000));
+            bytes.extend(table_damage::any_bytes(random, 70_000));
         }
         comparison.check(&mapped, &bytes)?;
         comparison.check_bytes(&before.bytes(), &mapped.sheet.bytes())?;

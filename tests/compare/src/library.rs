@@ -1,6 +1,6 @@
 //! The library, through the package that Rust programs call it by.
 
-use crate::word::Reply;
+use crate::reply::Reply;
 use second::Refused;
 
 /// A mapper and an inspector with the library's faces. Tests put wrong ones in its place, to see

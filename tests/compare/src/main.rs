@@ -1,25 +1,18 @@
-//! Compares the proved crates with the second implementation, subject by subject.
+//! Compares the library with the second implementation, subject by subject.
 //!
 //! Usage: `compare quick|long [SEED [SUBJECT]]`. It ends with status 1 at the first difference.
 
-mod arrays;
 mod careless;
-mod drawing;
 mod drawn;
 mod inspecting;
-mod labelling;
 mod library;
 mod mapped;
 mod mapping;
 #[cfg(test)]
 mod mutants;
-mod probe;
-mod random;
 mod reading;
-mod taking;
+mod reply;
 mod tally;
-mod walking;
-mod word;
 
 use std::env;
 use std::process::ExitCode;
@@ -44,11 +37,8 @@ impl Size {
 /// Compares one subject, from a seed, and says what differs.
 type Subject = fn(Size, u64) -> Result<(), String>;
 
-const SUBJECTS: [(&str, Subject); 6] = [
+const SUBJECTS: [(&str, Subject); 3] = [
     ("reading", reading::compare),
-    ("taking", taking::compare),
-    ("walking", walking::compare),
-    ("labelling", labelling::compare),
     ("mapping", mapping::compare),
     ("inspecting", inspecting::compare),
 ];

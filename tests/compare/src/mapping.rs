@@ -3,18 +3,18 @@
 mod buffer;
 pub mod comparison;
 pub mod known;
+mod labels;
 pub mod sheet;
 
 use crate::library::LINKED;
-use crate::random::Random;
 use crate::reading::damage::{damaged, telling_bytes};
 use crate::reading::edges;
-use crate::word::reply;
 use crate::{careless, drawn, Size};
 use buffer::LONGEST;
 use comparison::Comparison;
 use plain::shapes::{CARELESS, LADDERS, USUAL};
 use second::random::shapes::{self, NUMBERINGS, SHAPES};
+use second::random::Random;
 use second::sheet::{read, BUFFER_LIMIT};
 use second::table::{Table, FANIN_LIMIT, NODE_LIMIT};
 use second::{LOOP, ROOM};
@@ -29,8 +29,9 @@ pub fn compare(size: Size, seed: u64) -> Result<(), String> {
     drawings(&mut comparison, size.of(1_200, 30_000))?;
     damaged_tables(&mut comparison, size.of(6_000, 150_000))?;
     cut_tables(&mut comparison, size.of(2, 60))?;
-    let sheets = comparison.tally.done();
+    let sheets = comparison.tally.due(0);
     println!("mapping: {sheets} sheets of each mapper accepted by each inspector");
+    comparison.labels.report()?;
     comparison.tally.report("mapping", &[0, 1, 2, 3, 4, 5, 6, 7, 8])
 }
 
@@ -56,7 +57,7 @@ fn edges_of_reading(comparison: &mut Comparison) -> Result<(), String> {
         let named = |difference| format!("'{}': {difference}", edge.name);
         for length in [0, BUFFER_LIMIT - 1, BUFFER_LIMIT] {
             let outcome = comparison.check(&edge.bytes, length).map_err(named)?;
-            let is_due = match reply(edge.reply) {
+            let is_due = match edge.due {
                 Err(refused) => outcome == Err(refused),
                 // A whole table has a loop, or else too short a buffer is its one fault.
                 Ok(_) => match outcome {
@@ -133,23 +134,18 @@ pub fn drawings(comparison: &mut Comparison, count: usize) -> Result<(), String>
 /// is given too short a buffer.
 pub fn damaged_tables(comparison: &mut Comparison, count: usize) -> Result<(), String> {
     comparison.tally.begin("damaged tables");
-    let mut random = Random::new(comparison.random.word());
     for turn in 0..count {
-        let bytes = damaged_table(turn, &mut random, &mut comparison.random);
+        let bytes = damaged_table(turn, &mut comparison.random);
         comparison.check_bytes(&bytes, 4)?;
     }
     Ok(())
 }
 
 /// A head with bytes of no form behind it, or a table with a few fields and bytes damaged.
-pub fn damaged_table(
-    turn: usize,
-    random: &mut Random,
-    drawings: &mut second::random::Random,
-) -> Vec<u8> {
+pub fn damaged_table(turn: usize, random: &mut Random) -> Vec<u8> {
     let table = match turn % 8 {
         0..=3 => drawn::table(random),
-        _ => shapes::any(drawings.between(1, 24), drawings),
+        _ => shapes::any(random.between(1, 24), random),
     };
     if turn % 8 == 0 {
         let length = random.below(100);

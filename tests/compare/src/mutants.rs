@@ -1,12 +1,13 @@
-//! Wrong mappers and inspectors in the library's place, each of which has to be noticed, and by
-//! the comparison that is there for it. They are made from the second implementation, which stands
-//! in for the library where it is right.
+//! Wrong readers, mappers and inspectors in the library's place, each of which has to be noticed,
+//! and by the comparison that is there for it. They are made from the second implementation, which
+//! stands in for the library where it is right.
 
 mod inspectors;
 mod mappers;
+mod readers;
 
 use crate::library::Library;
-use crate::word::Reply;
+use crate::reply::Reply;
 use second::inspect::inspect;
 use second::sheet::Sheet;
 use second::{sheet, table, Refused};
@@ -21,7 +22,7 @@ fn map(table: &[u8], buffer: &mut [u8]) -> Reply {
 }
 
 /// The reply, but for refusals of this number.
-fn changed(reply: Reply, number: u32, change: fn(Refused) -> Reply) -> Reply {
+fn changed(reply: Reply, number: u32, change: impl Fn(Refused) -> Reply) -> Reply {
     match reply {
         Err(refused) if refused.0 == number => change(refused),
         reply => reply,

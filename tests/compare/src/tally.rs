@@ -1,6 +1,6 @@
 //! How many cases of each kind ran, and how often each reply was due.
 
-use crate::word::Reply;
+use crate::reply::Reply;
 
 #[derive(Default)]
 pub struct Tally {
@@ -23,9 +23,9 @@ impl Tally {
         self.replies[due.map_or_else(|(number, _)| number as usize, |_| 0)] += 1;
     }
 
-    /// How many cases were done and not refused.
-    pub fn done(&self) -> usize {
-        self.replies[0]
+    /// How many cases this reply was due to, by the paper's number, or 0 for those done.
+    pub fn due(&self, number: usize) -> usize {
+        self.replies[number]
     }
 
     /// Prints the counts. A reply that was never due was never compared, and a kind without cases

@@ -3,8 +3,8 @@
 use crate::hexadecimal;
 use crate::library::Library;
 use crate::mapped::Mapped;
+use crate::reply::{described, Reply};
 use crate::tally::Tally;
-use crate::word::{described, Reply};
 use second::graph::Graph;
 use second::inspect::{inspect, judge};
 use second::random::Random;

@@ -5,7 +5,7 @@ mod lies;
 mod rules;
 mod shape;
 
-use crate::word::Reply;
+use crate::reply::Reply;
 use second::sheet::Sheet;
 use second::table::Table;
 use second::Refused;

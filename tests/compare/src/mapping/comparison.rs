@@ -2,18 +2,22 @@
 //! each inspector is given the sheets of both mappers.
 
 use super::buffer::{Buffer, LONGEST};
+use super::labels::Labels;
 use super::sheet;
 use crate::hexadecimal;
 use crate::library::Library;
 use crate::mapped::Mapped;
+use crate::reply::{described, Reply};
 use crate::tally::Tally;
-use crate::word::{described, Reply};
 use second::graph::Graph;
 use second::inspect::inspect;
 use second::random::Random;
 use second::sheet::BUFFER_LIMIT;
 use second::table::Table;
 use second::{Refused, ROOM};
+
+/// The ruling on a sheet of no bytes: its head is due.
+const NO_SHEET: Refused = (21, 0);
 
 /// What both mappers do: the sheet that the library wrote, or the refusal.
 pub type Outcome = Result<Vec<u8>, Refused>;
@@ -22,6 +26,7 @@ pub struct Comparison<'a> {
     library: Library<'a>,
     pub random: Random,
     pub tally: Tally,
+    pub labels: Labels,
     buffer: Buffer,
 }
 
@@ -29,7 +34,7 @@ impl<'a> Comparison<'a> {
     pub fn new(library: Library<'a>, seed: u64) -> Comparison<'a> {
         let mut random = Random::seeded(seed);
         let buffer = Buffer::new(&mut random);
-        Comparison { library, random, tally: Tally::default(), buffer }
+        Comparison { library, random, tally: Tally::default(), labels: Labels::default(), buffer }
     }
 
     /// A length that is enough, just so or more.
@@ -63,9 +68,40 @@ impl<'a> Comparison<'a> {
         self.check(table, length).map(drop)
     }
 
+    /// Both readings of a table, and no mapping: too short a buffer shows that it is taken, and so
+    /// does a sheet of no bytes. A table that is refused is refused whatever the buffer.
+    pub fn check_reading(&mut self, table: &[u8]) -> Result<(), String> {
+        let read = Graph::read(table);
+        let length = match read.is_err() && self.random.one_in(2) {
+            true => self.enough(),
+            false => self.too_little(),
+        };
+        let due = Err(read.as_ref().err().copied().unwrap_or(NO_SHEET));
+        let found = (self.library.inspect)(table, &[]);
+        if found != due {
+            let (table, found, due) = (hexadecimal(table), described(found), described(due));
+            return Err(format!("table: {table}\nno sheet\nruling: {found}, due {due}"));
+        }
+        self.check_read(table, read, length).map(drop)
+    }
+
     /// Both mappers on a table and a buffer of so many bytes.
     pub fn check(&mut self, table: &[u8], length: usize) -> Result<Outcome, String> {
-        let due = due(table, length);
+        self.check_read(table, Graph::read(table), length)
+    }
+
+    /// The same for a table that the second reader has read.
+    fn check_read(
+        &mut self,
+        table: &[u8],
+        read: Result<Graph, Refused>,
+        length: usize,
+    ) -> Result<Outcome, String> {
+        // Room comes last.
+        let due = read.and_then(|graph| match length < BUFFER_LIMIT {
+            true => Err((ROOM, BUFFER_LIMIT)),
+            false => Ok(graph),
+        });
         let lent = self.buffer.lend(length, &mut self.random);
         let found = (self.library.map)(table, lent);
         self.tally.count(due.as_ref().map(|_| 0).map_err(|&refused| refused));
@@ -94,6 +130,7 @@ impl<'a> Comparison<'a> {
         let bytes = self.buffer.lent()[..length].to_vec();
         let mapped = Mapped::of(graph);
         sheet::check(&mapped, &bytes, &mut self.random)?;
+        self.labels.count(&mapped);
         self.check_exchange(&mapped, &bytes).map(|()| bytes)
     }
 
@@ -111,14 +148,5 @@ impl<'a> Comparison<'a> {
             Some((what, reply)) => Err(format!("exchange: {what}: {}", described(*reply))),
             None => Ok(()),
         }
-    }
-}
-
-/// The drawing that is to be mapped, or the refusal: Room comes last.
-fn due(table: &[u8], length: usize) -> Result<Graph, Refused> {
-    let graph = Graph::read(table)?;
-    match length < BUFFER_LIMIT {
-        true => Err((ROOM, BUFFER_LIMIT)),
-        false => Ok(graph),
     }
 }

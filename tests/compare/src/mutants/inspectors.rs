@@ -2,9 +2,12 @@
 
 use super::{a_place_further, assert_noticed, changed, inspect, STAND_IN};
 use crate::inspecting::comparison::Comparison;
-use crate::inspecting::{by_hand, damaged_sheets, damaged_tables, long, other_sheets, told_lies};
+use crate::inspecting::{
+    by_hand, damaged_sheets, damaged_tables, leaves, long, other_sheets, told_lies,
+};
 use crate::library::Library;
-use crate::word::Reply;
+use crate::reply::Reply;
+use second::cuts::{is_cut, walk, Walk};
 use second::evidence::is_due;
 use second::graph::Graph;
 use second::labels::d;
@@ -188,6 +191,34 @@ fn overlooks_a_condition_of_evidence() {
     for condition in [Number, Start, Steps, OutsideD, End, Sharing] {
         notices(&|table, sheet| overlooking(condition, table, sheet));
     }
+}
+
+/// What a cut must keep, on lists of leaves alone: an input that is met is a leaf, and a leaf is
+/// met. The list that 25 is due to is the line's, or else the LUT's.
+#[test]
+fn overlooks_a_condition_of_cuts() {
+    let noticed = |is_overlooked: fn(&Walk, NodeSet) -> bool| {
+        let wrong = |table: &[u8], sheet: &[u8]| {
+            changed(inspect(table, sheet), 25, |(_, gate)| {
+                let graph = Graph::read(table)?;
+                let sheet = read(&graph.table, sheet)?;
+                let line = NodeSet::from(&sheet.lines[gate - graph.table.inputs].leaves[..]);
+                let lut = sheet.luts.iter().find(|lut| lut.root == gate);
+                let leaves = match lut {
+                    Some(lut) if is_cut(&graph, gate, line) => NodeSet::from(&lut.leaves[..]),
+                    _ => line,
+                };
+                match is_overlooked(&walk(&graph, gate, leaves), leaves) {
+                    true => Ok(1),
+                    false => Err((25, gate)),
+                }
+            })
+        };
+        let mut comparison = Comparison::new(Library { inspect: &wrong, ..STAND_IN }, 1);
+        assert_noticed(leaves::lists(&mut comparison, 100), "ruling:");
+    };
+    noticed(|met, leaves| !met.strays.is_empty() && met.leaves == leaves);
+    noticed(|met, leaves| met.strays.is_empty() && met.leaves != leaves);
 }
 
 /// The depth that the head says, and rows above a LUT's own.

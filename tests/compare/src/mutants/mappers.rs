@@ -5,8 +5,12 @@ use crate::library::Library;
 use crate::mapped::Mapped;
 use crate::mapping::comparison::Comparison;
 use crate::mapping::{by_hand, damaged_tables, drawings, sheet};
-use crate::word::Reply;
+use crate::reply::Reply;
+use second::cuts::{cone, lean_cuts};
 use second::drawings::named;
+use second::graph::Graph;
+use second::labels::{d, labelled, p, Labelled};
+use second::nodes::NodeSet;
 use second::random::Random;
 use second::sheet::{Sheet, BUFFER_LIMIT};
 use second::{LOOP, ROOM};
@@ -122,6 +126,47 @@ fn wrong_fixed_parts() {
         lines.for_each(|line| line.leaves.truncate(1));
     };
     notices_changed(fewer_leaves, "fixed part:");
+}
+
+/// The least cut nearest to a gate whose label is p, and any other gate's own.
+fn nearest_cuts(graph: &Graph, Labelled { labels, cuts }: &Labelled) -> Vec<NodeSet> {
+    let lists = match lean_cuts(graph, 200) {
+        Some(lists) => lists,
+        None => return cuts.clone(),
+    };
+    let mut nearest = cuts.clone();
+    for gate in graph.gates().filter(|&gate| p(graph, labels, gate) == labels[gate]) {
+        let d = d(graph, labels, gate);
+        let is_least = |cut: &&NodeSet| cut.len() == cuts[gate].len() && cut.without(d) == **cut;
+        let least = lists[gate].iter().filter(is_least);
+        let least = least.min_by_key(|cut| cone(graph, gate, **cut).len());
+        nearest[gate] = *least.expect("the mapper's cut is one of them");
+    }
+    nearest
+}
+
+/// The first gate is labelled and the rest is guessed; no cut is looked for; of the least cuts the
+/// nearest is taken, and not the one with the largest cone.
+#[test]
+fn wrong_labels_and_cuts() {
+    let guessed = |sheet: &mut Sheet| {
+        sheet.lines.iter_mut().skip(1).for_each(|line| line.label = 1);
+    };
+    notices_changed(guessed, "fixed part:");
+    let with_cuts = |choose: fn(&Graph, &Labelled) -> Vec<NodeSet>| {
+        let wrong = |table: &[u8], buffer: &mut [u8]| {
+            let graph = Graph::read(table)?;
+            let cuts = choose(&graph, &labelled(&graph));
+            map_changed(table, buffer, |sheet| {
+                for (gate, line) in graph.gates().zip(&mut sheet.lines) {
+                    line.leaves = cuts[gate].list();
+                }
+            })
+        };
+        notices(&wrong, "fixed part:");
+    };
+    with_cuts(|graph, _| (0..graph.nodes()).map(|node| graph.fanin_set(node)).collect());
+    with_cuts(nearest_cuts);
 }
 
 #[test]

@@ -1,6 +1,6 @@
 //! Damage to gate tables, field by field and byte by byte.
 
-use crate::random::Random;
+use second::random::Random;
 use second::table::{gate_field, output_field, row_mask, Table};
 
 /// Byte values that mean something somewhere in a table: tags, lengths, small counts, limits.
@@ -9,11 +9,14 @@ const TELLING: [u8; 22] =
 
 /// A byte that is often a telling one.
 fn telling_byte(random: &mut Random) -> u8 {
-    if random.once_in(4) {
-        random.byte()
-    } else {
-        random.choice(&TELLING)
+    match random.one_in(4) {
+        true => random.word() as u8,
+        false => *random.pick(&TELLING),
     }
+}
+
+pub fn any_bytes(random: &mut Random, length: usize) -> Vec<u8> {
+    (0..length).map(|_| random.word() as u8).collect()
 }
 
 pub fn telling_bytes(random: &mut Random, length: usize) -> Vec<u8> {
@@ -76,7 +79,7 @@ fn damage_bytes(random: &mut Random, bytes: &mut Vec<u8>) {
             3 => drop(bytes.remove(position)),
             4 => bytes[position] ^= 1 << random.below(8),
             5 => bytes[position] = bytes[position].wrapping_add(1),
-            6 => bytes[position] = random.byte(),
+            6 => bytes[position] = random.word() as u8,
             _ => bytes[position] = telling_byte(random),
         },
         _ => {}

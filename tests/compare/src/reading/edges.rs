@@ -2,9 +2,9 @@
 //!
 //! A head has 7 bytes, a gate 12 + m and an output 4, which gives the places below.
 
-use super::reply::{refused, whole};
 use second::drawings;
-use second::table::{field, gate_field, head_field, output_field, Table};
+use second::table::{field, gate_field, head_field, output_field};
+use second::Refused;
 
 /// The paper's numbers of the refusals.
 const TORN: u32 = 1;
@@ -14,10 +14,21 @@ const RANGE: u32 = 4;
 const ROWS: u32 = 5;
 const OUTPUTS: u32 = 6;
 
+/// K, and the numbers of inputs, gates and outputs; or the refusal.
+pub type Read = Result<[usize; 4], Refused>;
+
+fn refused(number: u32, place: usize) -> Read {
+    Err((number, place))
+}
+
+fn whole(k: usize, inputs: usize, gates: usize, outputs: usize) -> Read {
+    Ok([k, inputs, gates, outputs])
+}
+
 pub struct Edge {
     pub name: String,
     pub bytes: Vec<u8>,
-    pub reply: u64,
+    pub due: Read,
 }
 
 pub fn all() -> Vec<Edge> {
@@ -41,15 +52,15 @@ pub fn all() -> Vec<Edge> {
 struct Edges(Vec<Edge>);
 
 impl Edges {
-    fn add(&mut self, name: &str, bytes: &[u8], reply: u64) {
-        self.0.push(Edge { name: name.to_string(), bytes: bytes.to_vec(), reply });
+    fn add(&mut self, name: &str, bytes: &[u8], due: Read) {
+        self.0.push(Edge { name: name.to_string(), bytes: bytes.to_vec(), due });
     }
 
     /// An edge behind a head that is good.
-    fn behind(&mut self, head: [u8; 3], name: &str, bytes: &[u8], reply: u64) {
+    fn behind(&mut self, head: [u8; 3], name: &str, bytes: &[u8], due: Read) {
         let [k, inputs, gates] = head;
         let name = format!("K {k}, I {inputs}, G {gates}: {name}");
-        self.add(&name, &[&head_field(k, inputs, gates), bytes].concat(), reply);
+        self.add(&name, &[&head_field(k, inputs, gates), bytes].concat(), due);
     }
 }
 
@@ -90,12 +101,12 @@ fn head_lengths(edges: &mut Edges) {
 
 /// Heads with an output behind them and as many gates as they announce.
 fn head_numbers(edges: &mut Edges) {
-    let mut number = |version: u8, k: u8, inputs: u8, gates: u8, reply: u64| {
+    let mut number = |version: u8, k: u8, inputs: u8, gates: u8, due: Read| {
         let head = field(1, &[version, k, inputs, gates]);
         let gate = gate_field(&[0], 1);
         let bytes = [head, gate.repeat(usize::from(gates)), output_field(0)].concat();
         let name = format!("head of version {version}, K {k}, I {inputs}, G {gates}");
-        edges.add(&name, &bytes, reply);
+        edges.add(&name, &bytes, due);
     };
     let good = |k, inputs, gates| whole(k, inputs, gates, 1);
     number(0, 2, 1, 0, refused(RANGE, 0));
@@ -148,9 +159,9 @@ fn begun_gates(edges: &mut Edges) {
 /// Gates of K 6, so that no m of a right length is above K.
 fn gate_lengths(edges: &mut Edges) {
     let head = [6, 1, 1];
-    let mut length = |name: &str, value: &[u8], reply: u64| {
+    let mut length = |name: &str, value: &[u8], due: Read| {
         let bytes = [field(2, value), output_field(0)].concat();
-        edges.behind(head, name, &bytes, reply);
+        edges.behind(head, name, &bytes, due);
     };
     let good = whole(6, 1, 1, 1);
     length("gate of length 0", &[], refused(LENGTH, 7));
@@ -183,10 +194,10 @@ fn gate_lengths(edges: &mut Edges) {
 }
 
 fn gate_ranges(edges: &mut Edges) {
-    let mut range = |k: u8, fanins: &[u8], rows: u64, reply: u64| {
+    let mut range = |k: u8, fanins: &[u8], rows: u64, due: Read| {
         let bytes = [gate_field(fanins, rows), output_field(0)].concat();
         let name = format!("gate of fanins {fanins:?}, rows {rows:#x}");
-        edges.behind([k, 2, 1], &name, &bytes, reply);
+        edges.behind([k, 2, 1], &name, &bytes, due);
     };
     for k in 2..=5 {
         let most = [0, 1, 2, 0, 1, 2];
@@ -219,10 +230,10 @@ fn zeros(count: usize) -> Vec<u8> {
 }
 
 fn gate_rows(edges: &mut Edges) {
-    let mut rows = |m: usize, rows: u64, reply: u64| {
+    let mut rows = |m: usize, rows: u64, due: Read| {
         let bytes = [gate_field(&zeros(m), rows), output_field(0)].concat();
         let name = format!("gate of {m} fanins, rows {rows:#x}");
-        edges.behind([6, 1, 1], &name, &bytes, reply);
+        edges.behind([6, 1, 1], &name, &bytes, due);
     };
     let good = whole(6, 1, 1, 1);
     let bad = refused(ROWS, 7);
@@ -244,9 +255,9 @@ fn gate_rows(edges: &mut Edges) {
 
 /// The same faults in a second gate, whose start is at 20.
 fn second_gates(edges: &mut Edges) {
-    let mut second = |name: &str, bytes: &[u8], reply: u64| {
+    let mut second = |name: &str, bytes: &[u8], due: Read| {
         let bytes = [&gate_field(&[2], 1), bytes].concat();
-        edges.behind([2, 1, 2], &format!("second gate: {name}"), &bytes, reply);
+        edges.behind([2, 1, 2], &format!("second gate: {name}"), &bytes, due);
     };
     let gate = gate_field(&[1, 2], 8);
     second("none", &[], refused(TORN, 20));
@@ -293,8 +304,8 @@ fn outputs(edges: &mut Edges) {
     edges.behind(head, "output of length 257", &field(3, &[0; 257]), refused(LENGTH, 7));
     edges.behind(head, "output of length 257, torn", &[3, 1, 1, 0], refused(TORN, 7));
     edges.behind(head, "length 2, out of range", &field(3, &[9, 9]), refused(LENGTH, 7));
-    let mut after_one = |name: &str, bytes: &[u8], reply: u64| {
-        edges.behind(head, name, &[&output_field(1), bytes].concat(), reply);
+    let mut after_one = |name: &str, bytes: &[u8], due: Read| {
+        edges.behind(head, name, &[&output_field(1), bytes].concat(), due);
     };
     after_one("an output again", &output_field(1), whole(2, 2, 0, 2));
     after_one("one byte left", &[0], refused(TORN, 11));
@@ -309,9 +320,9 @@ fn outputs(edges: &mut Edges) {
 
 /// What may stand behind 64 outputs, at 7 + 64 · 4 = 263.
 fn output_65(edges: &mut Edges) {
-    let mut behind_64 = |name: &str, bytes: &[u8], reply: u64| {
+    let mut behind_64 = |name: &str, bytes: &[u8], due: Read| {
         let bytes = [&output_field(0).repeat(64), bytes].concat();
-        edges.behind([2, 1, 0], &format!("64 outputs, then {name}"), &bytes, reply);
+        edges.behind([2, 1, 0], &format!("64 outputs, then {name}"), &bytes, due);
     };
     behind_64("nothing", &[], whole(2, 1, 0, 64));
     behind_64("an output", &output_field(0), refused(OUTPUTS, 263));
@@ -365,8 +376,8 @@ fn paper(edges: &mut Edges) {
         ("P8", whole(2, 1, 1, 1)),
         ("P9", whole(2, 1, 3, 1)),
     ];
-    for (drawing, (name, reply)) in drawings::paper().iter().zip(replies) {
+    for (drawing, (name, due)) in drawings::paper().iter().zip(replies) {
         assert_eq!(drawing.name, name);
-        edges.add(name, &Table::bytes(&drawing.table), reply);
+        edges.add(name, &drawing.table.bytes(), due);
     }
 }

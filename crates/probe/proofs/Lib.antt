@@ -1,4 +1,0 @@
-pub mod Small
-pub mod Drawings
-pub mod Fits
-pub mod Unique
