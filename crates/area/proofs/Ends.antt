@@ -1,4 +1,4 @@
--- The second pass: fanin after fanin, and gate of D after gate of D, the ends are marked.
+-- The second pass: fanin after fanin, and gate of D after gate of D, nodes of the area become ends.
 use Prim.Native.Nat.{ℕ, _+_, _≤_, _<_}
 use native.Mathlib.Nat.{not-suc-le-zero}
 use native.Mathlib.Decide.{ℕ-discrete}
@@ -8,143 +8,155 @@ use mathlib.Core.Logic.{_⊎_, inl, inr, ⊎-elim}
 use mathlib.Core.List.{List, List·Memᴰ, List·Memᴰ·not-nil}
 use lib.ListN.{length, getD, set, take, drop, length-set}
 use lib.Seq.{getD-set-same, getD-set-other}
-use Rattle.walking.specs.Arrays.{Marks}
-use Rattle.walking.specs.Listing.{faninsAt}
-use Rattle.area.specs.Area.{Fed}
-use Rattle.area.specs.Passes.{NoEnd, FaninsMarked, EndIn}
-use Rattle.area.proofs.Parts.{part-old, part-new, part-cases}
-use Rattle.area.proofs.Marking.{marks-same, drop-same, Filling}
+use Rattle.storage.specs.Entries.{Beyond}
+use Rattle.storage.specs.Lists.{listAt}
+use Rattle.storage.proofs.Clears.{drop-same}
+use Rattle.storage.specs.Drawings.{Fed}
+use Rattle.storage.proofs.Entries.{part-old, part-new, part-cases}
+use Rattle.area.specs.Passes.{FaninAt, FaninsMarked, EndIn, EndAt, EndsMarked}
 
 -- One fanin more
 
-one-stays : (l : List ℕ) (x v : ℕ) → x < length l → getD l v 0 ≡ 1 → getD (set l x 1) v 0 ≡ 1
-one-stays l x v inside one = by-place (ℕ-discrete v x)
-  where
-    by-place : Dec (v ≡ x) → getD (set l x 1) v 0 ≡ 1
-    by-place (yes e) = ap (λ (w : ℕ). getD (set l x 1) w 0) e ∙ getD-set-same l x 1 0 inside
-    by-place (no apart) = getD-set-other l x v 1 0 apart ∙ one
+pub fanins-none : (s : List ℕ) (at : ℕ) (roles : List ℕ) → FaninsMarked (take 0 (drop at s)) roles roles
+fanins-none s at roles = record { all = λ v m. absurd (List·Memᴰ·not-nil m); each = λ v. inr refl }
 
-pub fanins-none : (s : List ℕ) (at : ℕ) (area ends : List ℕ) → FaninsMarked (take 0 (drop at s)) area ends ends
-fanins-none s at area ends = record { all = λ v m. absurd (List·Memᴰ·not-nil m); each = λ v. inr refl }
+module _ (s : List ℕ) (at m : ℕ) (fits : at + m ≤ length s) {before roles : List ℕ} (i : ℕ) (low : i < m)
+    (so-far : FaninsMarked (take i (drop at s)) before roles) {x : ℕ} (same : x ≡ getD s (at + i) 0) where
+  module _ (within : getD roles x 0 ≡ 5) (inside : x < length roles) where
+    marked-here : getD (set roles x 6) x 0 ≡ 6
+    marked-here = getD-set-same roles x 6 0 inside
 
-module _ (s : List ℕ) (at m : ℕ) (fits : at + m ≤ length s) {area before ends : List ℕ} (i : ℕ) (low : i < m)
-    (so-far : FaninsMarked (take i (drop at s)) area before ends) {x : ℕ} (same : x ≡ getD s (at + i) 0) where
-  pub fanins-mark : getD area x 0 ≡ 1 → x < length ends → FaninsMarked (take (i + 1) (drop at s)) area before (set ends x 1)
-  fanins-mark within inside =
-      record {
-        all = λ v member one.
-            ⊎-elim (λ (old : List·Memᴰ v (take i (drop at s))). one-stays ends x v inside (so-far .all v old one))
-            (λ (new : v ≡ getD s (at + i) 0). ap (λ (w : ℕ). getD (set ends x 1) w 0) (new ∙ sym same) ∙ getD-set-same ends x 1 0 inside)
-            (part-cases s at m fits i low member);
-        each = λ v. by-place v (ℕ-discrete v x);
-      }
-    where
-      Touched : ℕ → Type 0
-      Touched v = (List·Memᴰ v (take (i + 1) (drop at s))) × (getD area v 0 ≡ 1) × (getD (set ends x 1) v 0 ≡ 1)
+    -- what was no node of the area is none after the store
+    none-stays : (v : ℕ) → (getD roles v 0 ≡ 5 → ⊥) ⊎ (v ≡ x) → getD (set roles x 6) v 0 ≡ 5 → ⊥
+    none-stays v here five = by-place (ℕ-discrete v x)
+      where
+        by-place : Dec (v ≡ x) → ⊥
+        by-place (yes e) = let six : getD (set roles x 6) v 0 ≡ 6 = ap (λ (w : ℕ). getD (set roles x 6) w 0) e ∙ marked-here in omega arith
+        by-place (no apart) =
+            ⊎-elim (λ (none : getD roles v 0 ≡ 5 → ⊥). none (sym (getD-set-other roles x v 6 0 apart) ∙ five)) apart here
 
-      by-place : (v : ℕ) → Dec (v ≡ x) → Touched v ⊎ (getD (set ends x 1) v 0 ≡ getD before v 0)
-      by-place v (yes e) =
-          inl (
-            part-new s at m fits i low (e ∙ same),
-            ap (λ (w : ℕ). getD area w 0) e ∙ within,
-            ap (λ (w : ℕ). getD (set ends x 1) w 0) e ∙ getD-set-same ends x 1 0 inside,
-          )
-      by-place v (no apart) =
-          ⊎-elim
-          (λ (old : (List·Memᴰ v (take i (drop at s))) × (getD area v 0 ≡ 1) × (getD ends v 0 ≡ 1)).
-          inl (part-old s at m fits i low (old .0), old .1, getD-set-other ends x v 1 0 apart ∙ old .2))
-          (λ (kept : getD ends v 0 ≡ getD before v 0). inr (getD-set-other ends x v 1 0 apart ∙ kept)) (so-far .each v)
+    fanins-mark : FaninsMarked (take (i + 1) (drop at s)) before (set roles x 6)
+    fanins-mark =
+        record {
+          all = λ v member.
+              none-stays v
+              (⊎-elim (λ (old : List·Memᴰ v (take i (drop at s))). inl (so-far .all v old)) (λ (new : v ≡ getD s (at + i) 0). inr (new ∙ sym same))
+              (part-cases s at m fits i low member));
+          each = λ v. by-place v (ℕ-discrete v x) (so-far .each v);
+        }
+      where
+        -- the fanin had not been touched, since it lies in the area still
+        was-inside : (v : ℕ) → v ≡ x → FaninAt (take i (drop at s)) before roles v →
+            getD before v 0 ≡ 5
+        was-inside v e (inl old) = old .1
+        was-inside v e (inr kept) = sym kept ∙ ap (λ (w : ℕ). getD roles w 0) e ∙ within
 
-  pub fanins-pass : (getD area x 0 ≡ 1 → ⊥) → FaninsMarked (take (i + 1) (drop at s)) area before ends
+        by-place : (v : ℕ) → Dec (v ≡ x) →
+            FaninAt (take i (drop at s)) before roles v →
+            FaninAt (take (i + 1) (drop at s)) before (set roles x 6) v
+        by-place v (yes e) was =
+            inl (part-new s at m fits i low (e ∙ same), was-inside v e was, ap (λ (w : ℕ). getD (set roles x 6) w 0) e ∙ marked-here)
+        by-place v (no apart) (inl old) = inl (part-old s at m fits i low (old .0), old .1, getD-set-other roles x v 6 0 apart ∙ old .2)
+        by-place v (no apart) (inr kept) = inr (getD-set-other roles x v 6 0 apart ∙ kept)
+
+  fanins-pass : (getD roles x 0 ≡ 5 → ⊥) → FaninsMarked (take (i + 1) (drop at s)) before roles
   fanins-pass without =
       record {
-        all = λ v member one.
-            ⊎-elim (λ (old : List·Memᴰ v (take i (drop at s))). so-far .all v old one)
-            (λ (new : v ≡ getD s (at + i) 0). absurd (without (ap (λ (w : ℕ). getD area w 0) (same ∙ sym new) ∙ one)))
+        all = λ v member five.
+            ⊎-elim (λ (old : List·Memᴰ v (take i (drop at s))). so-far .all v old five)
+            (λ (new : v ≡ getD s (at + i) 0). without (ap (λ (w : ℕ). getD roles w 0) (same ∙ sym new) ∙ five))
             (part-cases s at m fits i low member);
         each = λ v.
             ⊎-elim
-            (λ (old : (List·Memᴰ v (take i (drop at s))) × (getD area v 0 ≡ 1) × (getD ends v 0 ≡ 1)).
+            (λ (old : (List·Memᴰ v (take i (drop at s))) × (getD before v 0 ≡ 5) × (getD roles v 0 ≡ 6)).
             inl (part-old s at m fits i low (old .0), old .1, old .2))
-            (λ (kept : getD ends v 0 ≡ getD before v 0). inr kept) (so-far .each v);
+            (λ (kept : getD roles v 0 ≡ getD before v 0). inr kept) (so-far .each v);
       }
 
-  -- a turn: the fanin is marked if it lies in the area
-  pub fanins-turn : {ends′ : List ℕ} → length ends ≡ length before → x < length ends →
-      ((getD area x 0 ≡ 1) × (ends′ ≡ set ends x 1)) ⊎ ((getD area x 0 ≡ 1 → ⊥) × (ends′ ≡ ends)) →
-      (length ends′ ≡ length before) × FaninsMarked (take (i + 1) (drop at s)) area before ends′
+  -- a turn: the fanin is an end if it lies in the area
+  pub fanins-turn : {roles′ : List ℕ} → length roles ≡ length before → x < length roles →
+      ((getD roles x 0 ≡ 5) × (roles′ ≡ set roles x 6)) ⊎ ((getD roles x 0 ≡ 5 → ⊥) × (roles′ ≡ roles)) →
+      (length roles′ ≡ length before) × FaninsMarked (take (i + 1) (drop at s)) before roles′
   fanins-turn size inside (inl (within, stored)) = rw stored (simp length-set size, fanins-mark within inside)
   fanins-turn size inside (inr (without, kept)) = rw kept (size, fanins-pass without)
 
 -- One gate more
 
-module _ {fan count deep area : List ℕ} {d : ℕ} where
-  end-later : {v : ℕ} → EndIn d fan count deep area v → EndIn (d + 1) fan count deep area v
+module _ {fanins roles₀ : List ℕ} {d : ℕ} where
+  end-later : {v : ℕ} → EndIn d fanins roles₀ v → EndIn (d + 1) fanins roles₀ v
   end-later e =
       record { inside = e .inside; member = e .member; below = (let low = e .below in omega arith); chosen = e .chosen; feeds = e .feeds }
 
   -- an end of one gate more is an end of before, or of this gate
-  end-cases : {v : ℕ} → EndIn (d + 1) fan count deep area v →
-      EndIn d fan count deep area v ⊎ ((getD deep d 0 ≡ 1) × List·Memᴰ v (faninsAt fan count d))
+  end-cases : {v : ℕ} → EndIn (d + 1) fanins roles₀ v → EndIn d fanins roles₀ v ⊎ ((getD roles₀ d 0 ≡ 4) × List·Memᴰ v (listAt fanins d))
   end-cases {v} e = by-member (ℕ-discrete (e .member) d)
     where
-      by-member : Dec (e .member ≡ d) → EndIn d fan count deep area v ⊎ ((getD deep d 0 ≡ 1) × List·Memᴰ v (faninsAt fan count d))
+      by-member : Dec (e .member ≡ d) → EndIn d fanins roles₀ v ⊎ ((getD roles₀ d 0 ≡ 4) × List·Memᴰ v (listAt fanins d))
       by-member (yes same) =
-          inr (ap (λ (w : ℕ). getD deep w 0) (sym same) ∙ e .chosen, subst (λ (w : ℕ). List·Memᴰ v (faninsAt fan count w)) same (e .feeds))
+          inr (ap (λ (w : ℕ). getD roles₀ w 0) (sym same) ∙ e .chosen, subst (λ (w : ℕ). List·Memᴰ v (listAt fanins w)) same (e .feeds))
       by-member (no apart) =
           inl (record { inside = e .inside; member = e .member; below = (let low = e .below in omega arith); chosen = e .chosen; feeds = e .feeds })
 
-  module _ {nodes : ℕ} {ends₀ ends : List ℕ} (so-far : Filling nodes nodes (EndIn d fan count deep area) ends₀ ends) where
-    pub ends-skip : (getD deep d 0 ≡ 1 → ⊥) → Filling nodes nodes (EndIn (d + 1) fan count deep area) ends₀ ends
-    ends-skip none =
-        record {
-          size = so-far .size;
-          marks = marks-same (λ v low e. end-later e) (λ v low e. ⊎-elim (λ (old : EndIn d fan count deep area v). old)
-              (λ (new : (getD deep d 0 ≡ 1) × List·Memᴰ v (faninsAt fan count d)). absurd (none (new .0))) (end-cases e)) (so-far .marks);
-          beyond = so-far .beyond;
-        }
-
-    pub ends-take : {ends′ : List ℕ} → getD deep d 0 ≡ 1 → Fed fan count d nodes → length ends′ ≡ length ends →
-        FaninsMarked (faninsAt fan count d) area ends ends′ → Filling nodes nodes (EndIn (d + 1) fan count deep area) ends₀ ends′
-    ends-take {ends′} one fed size marked =
-        record {
-          size = size ∙ so-far .size;
-          marks = record { bit = λ v low. bits v low (marked .each v); holds = λ v low. holding v low (marked .each v); marked = marking };
-          beyond = drop-same nodes ends′ ends size (λ v far. kept-far v far (marked .each v)) ∙ so-far .beyond;
-        }
+  module _ {roles : List ℕ} (so-far : EndsMarked d fanins roles₀ roles) where
+    -- a member of D stays what it is
+    deep-stays : (v : ℕ) → getD roles₀ v 0 ≡ 4 → getD roles v 0 ≡ 4
+    deep-stays v four = by-case (so-far .each v)
       where
-        Touched : ℕ → Type 0
-        Touched v = (List·Memᴰ v (faninsAt fan count d)) × (getD area v 0 ≡ 1) × (getD ends′ v 0 ≡ 1)
+        by-case : EndAt d fanins roles₀ roles v → getD roles v 0 ≡ 4
+        by-case (inl (e, six)) = absurd (let five = e .inside in omega arith)
+        by-case (inr (none, kept)) = kept ∙ four
 
-        bits : (v : ℕ) → v < nodes → Touched v ⊎ (getD ends′ v 0 ≡ getD ends v 0) → (getD ends′ v 0 ≡ 0) ⊎ (getD ends′ v 0 ≡ 1)
-        bits v low (inl new) = inr (new .2)
-        bits v low (inr kept) = rw kept (so-far .marks .bit v low)
+    deep-was : (v : ℕ) → getD roles v 0 ≡ 4 → getD roles₀ v 0 ≡ 4
+    deep-was v four = by-case (so-far .each v)
+      where
+        by-case : EndAt d fanins roles₀ roles v → getD roles₀ v 0 ≡ 4
+        by-case (inl (e, six)) = absurd (omega arith)
+        by-case (inr (none, kept)) = sym kept ∙ four
 
-        holding : (v : ℕ) → v < nodes → Touched v ⊎ (getD ends′ v 0 ≡ getD ends v 0) → getD ends′ v 0 ≡ 1 → EndIn (d + 1) fan count deep area v
-        holding v low (inl new) e = record { inside = new .1; member = d; below = omega arith; chosen = one; feeds = new .0 }
-        holding v low (inr kept) e = end-later (so-far .marks .holds v low (sym kept ∙ e))
+    ends-skip : (getD roles d 0 ≡ 4 → ⊥) → EndsMarked (d + 1) fanins roles₀ roles
+    ends-skip outside = record { size = so-far .size; each = λ v. by-case v (so-far .each v) }
+      where
+        by-case : (v : ℕ) → EndAt d fanins roles₀ roles v →
+            EndAt (d + 1) fanins roles₀ roles v
+        by-case v (inl (e, six)) = inl (end-later e, six)
+        by-case v (inr (none, kept)) =
+            inr (λ e. ⊎-elim none (λ (new : (getD roles₀ d 0 ≡ 4) × List·Memᴰ v (listAt fanins d)). outside (deep-stays d (new .0))) (end-cases e), kept)
 
-        marked-old : (v : ℕ) → getD ends v 0 ≡ 1 → Touched v ⊎ (getD ends′ v 0 ≡ getD ends v 0) → getD ends′ v 0 ≡ 1
-        marked-old v old (inl new) = new .2
-        marked-old v old (inr kept) = kept ∙ old
+    ends-take : {roles′ : List ℕ} → getD roles d 0 ≡ 4 → length roles′ ≡ length roles → FaninsMarked (listAt fanins d) roles roles′ →
+        EndsMarked (d + 1) fanins roles₀ roles′
+    ends-take {roles′} four size marked =
+        record { size = size ∙ so-far .size; each = λ v. by-case v (so-far .each v) (marked .each v) }
+      where
+        by-case : (v : ℕ) → EndAt d fanins roles₀ roles v →
+            FaninAt (listAt fanins d) roles roles′ v →
+            EndAt (d + 1) fanins roles₀ roles′ v
+        by-case v (inl (e, six)) (inl (member, five, now-six)) = inl (end-later e, now-six)
+        by-case v (inl (e, six)) (inr same) = inl (end-later e, same ∙ six)
+        by-case v (inr (none, kept)) (inl (member, five, six)) =
+            inl (record { inside = sym kept ∙ five; member = d; below = omega arith; chosen = deep-was d four; feeds = member }, six)
+        by-case v (inr (none, kept)) (inr same) =
+            inr (
+              λ e. ⊎-elim none (λ (new : (getD roles₀ d 0 ≡ 4) × List·Memᴰ v (listAt fanins d)). marked .all v (new .1) (same ∙ kept ∙ e .inside)) (end-cases e),
+              same ∙ kept,
+            )
 
-        marking : (v : ℕ) → v < nodes → EndIn (d + 1) fan count deep area v → getD ends′ v 0 ≡ 1
-        marking v low e =
-            ⊎-elim (λ (old : EndIn d fan count deep area v). marked-old v (so-far .marks .marked v low old) (marked .each v))
-            (λ (new : (getD deep d 0 ≡ 1) × List·Memᴰ v (faninsAt fan count d)). marked .all v (new .1) (e .inside)) (end-cases e)
+-- a turn: a member of D makes its fanins in the area ends
+pub ends-turn : {d : ℕ} {fanins roles₀ roles roles′ : List ℕ} → EndsMarked d fanins roles₀ roles →
+    ((getD roles d 0 ≡ 4) × (length roles′ ≡ length roles) × FaninsMarked (listAt fanins d) roles roles′) ⊎ ((getD roles d 0 ≡ 4 → ⊥) × (roles′ ≡ roles)) →
+    EndsMarked (d + 1) fanins roles₀ roles′
+ends-turn so-far (inl (four, size, marked)) = ends-take so-far four size marked
+ends-turn so-far (inr (outside, kept)) = rw kept (ends-skip so-far outside)
 
-        kept-far : (v : ℕ) → nodes ≤ v → Touched v ⊎ (getD ends′ v 0 ≡ getD ends v 0) → getD ends′ v 0 ≡ getD ends v 0
-        kept-far v far (inl new) = absurd (omega (arith, fed .known v (new .0)))
-        kept-far v far (inr kept) = kept
+pub ends-none : (fanins roles : List ℕ) → EndsMarked 0 fanins roles roles
+ends-none fanins roles = record { size = refl; each = λ v. inr (λ e. not-suc-le-zero (e .below), refl) }
 
--- a turn: a gate of D has its fanins marked
-pub ends-turn : {nodes d : ℕ} {fan count deep area ends₀ ends ends′ : List ℕ} → Filling nodes nodes (EndIn d fan count deep area) ends₀ ends →
-    Fed fan count d nodes →
-    ((getD deep d 0 ≡ 1) × (length ends′ ≡ length ends) × FaninsMarked (faninsAt fan count d) area ends ends′) ⊎ ((getD deep d 0 ≡ 1 → ⊥) × (ends′ ≡ ends)) →
-    Filling nodes nodes (EndIn (d + 1) fan count deep area) ends₀ ends′
-ends-turn so-far fed (inl (one, size, marked)) = ends-take so-far one fed size marked
-ends-turn so-far fed (inr (none, kept)) = rw kept (ends-skip so-far none)
-
-pub ends-none : {nodes : ℕ} {fan count deep area ends : List ℕ} → Marks nodes NoEnd ends → Filling nodes nodes (EndIn 0 fan count deep area) ends ends
-ends-none none =
-    record { size = refl; marks = marks-same (λ v low e. absurd e) (λ v low e. not-suc-le-zero (e .below)) none; beyond = refl }
+-- ends are nodes, so what lies beyond the nodes is as before
+pub ends-beyond : {nodes : ℕ} {fanins roles₀ roles : List ℕ} → ((v : ℕ) → v < nodes → Fed fanins v nodes) → EndsMarked nodes fanins roles₀ roles →
+    Beyond nodes roles₀ roles
+ends-beyond {nodes} {fanins} {roles₀} {roles} fed ends =
+    record { size = ends .size; beyond = drop-same nodes roles roles₀ (ends .size) (λ v far. by-case v far (ends .each v)) }
+  where
+    by-case : (v : ℕ) → nodes ≤ v → EndAt nodes fanins roles₀ roles v →
+        getD roles v 0 ≡ getD roles₀ v 0
+    by-case v far (inl (e, six)) = absurd (let low : v < nodes = fed (e .member) (e .below) .known v (e .feeds) in omega arith)
+    by-case v far (inr (none, kept)) = kept

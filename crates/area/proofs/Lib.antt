@@ -1,5 +1,6 @@
 pub mod Parts
 pub mod Marking
+pub mod Splits
 pub mod Ends
 pub mod Areas
 pub mod Whole

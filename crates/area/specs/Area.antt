@@ -1,14 +1,16 @@
 -- The part of a drawing on which the search for paths works: what lies behind a gate t outside D, and where paths end.
-use Prim.Native.Nat.{ℕ, _+_, _*_, _≤_, _<_}
+use Prim.Native.Nat.{ℕ, _≤_, _<_}
 use mathlib.Core.Path.{_≡_}
+use mathlib.Core.Logic.{_⊎_}
 use mathlib.Core.List.{List, List·Memᴰ}
-use lib.ListN.{length, getD, drop}
+use lib.ListN.{length, getD}
 use Rattle.theory.specs.Net.{Net, Gate}
 use Rattle.theory.specs.Walk.{Behind}
 use Rattle.theory.specs.Evidence.{peak, InD}
-use Rattle.drawing.specs.Table.{netIn}
-use Rattle.walking.specs.Arrays.{Drawn, Marks}
-use Rattle.walking.specs.Listing.{faninsAt}
+use Rattle.storage.specs.Entries.{Beyond}
+use Rattle.storage.specs.Marks.{Marks}
+use Rattle.storage.specs.Roles.{metIn, deepIn, areaIn, endsIn}
+use Rattle.storage.specs.Drawings.{netIn, Drawn}
 
 -- "stays behind t and outside D"
 pub record InArea (net : Net) (lab : ℕ → ℕ) (t v : ℕ) : Type 0 where
@@ -26,37 +28,25 @@ pub record IsEnd (net : Net) (lab : ℕ → ℕ) (t v : ℕ) : Type 0 where
 abbrev pub labelIn : List ℕ → ℕ → ℕ
 labelIn labels v = getD labels v 0
 
--- A gate's fanins lie within the arrays, and each has an entry in an array of `size` entries.
-pub record Fed (fan count : List ℕ) (gate size : ℕ) : Type 0 where
-  pub counted : gate < length count
-  pub fan-long : 6 * gate + getD count gate 0 ≤ length fan
-  pub known : (v : ℕ) → List·Memᴰ v (faninsAt fan count gate) → v < size
+-- p, in every drawing that the array holds
+abbrev pub PeakIn : (fanins : List ℕ) (gate : ℕ) (labels : List ℕ) (p : ℕ) → Type 0
+PeakIn fanins gate labels p = (inputs nodes : ℕ) → gate < nodes → p ≡ peak (netIn inputs nodes fanins) (labelIn labels) gate
 
--- p, in every drawing that the arrays hold
-abbrev pub PeakIn : (fan count : List ℕ) (gate : ℕ) (labels : List ℕ) (p : ℕ) → Type 0
-PeakIn fan count gate labels p = (inputs nodes : ℕ) → gate < nodes → p ≡ peak (netIn inputs nodes fan count) (labelIn labels) gate
-
--- A gate of a drawing, with its p, the marks of what lies behind it, and room for three more marks a node.
-pub record AreaAsked (inputs nodes : ℕ) (fan count : List ℕ) (gate : ℕ) (labels : List ℕ) (p : ℕ) (met deep area ends : List ℕ) : Type 0 where
+-- A gate of a drawing, with its p, and roles by which what lies behind it was met.
+pub record AreaAsked (inputs nodes : ℕ) (fanins : List ℕ) (gate : ℕ) (labels : List ℕ) (p : ℕ) (roles : List ℕ) : Type 0 where
   pub k : ℕ
-  pub drawn : Drawn inputs nodes k fan count
-  pub ids : nodes ≤ 65536
-  pub gate-stands : Gate (netIn inputs nodes fan count) gate
-  pub peak-known : p ≡ peak (netIn inputs nodes fan count) (labelIn labels) gate
-  pub behind-known : Marks nodes (Behind (netIn inputs nodes fan count) gate) met
+  pub drawn : Drawn inputs nodes k fanins
+  pub small : nodes ≤ 32767
+  pub gate-stands : Gate (netIn inputs nodes fanins) gate
+  pub peak-known : p ≡ peak (netIn inputs nodes fanins) (labelIn labels) gate
+  pub behind-known : Marks nodes (Behind (netIn inputs nodes fanins) gate) (metIn roles)
   pub labels-long : nodes ≤ length labels
-  pub met-long : nodes ≤ length met
-  pub deep-long : nodes ≤ length deep
-  pub area-long : nodes ≤ length area
-  pub ends-long : nodes ≤ length ends
+  pub roles-long : nodes ≤ length roles
 
--- The first `nodes` entries are marks of a property, and the entries beyond are as before.
-pub record Marked (nodes : ℕ) (P : ℕ → Type 0) (before after : List ℕ) : Type 0 where
-  pub marks : Marks nodes P after
-  pub beyond : drop nodes after ≡ drop nodes before
-
--- D, the area and its ends are marked.
-pub record AreaMarked (net : Net) (lab : ℕ → ℕ) (t : ℕ) (deep deep′ area area′ ends ends′ : List ℕ) : Type 0 where
-  pub deep-marked : Marked (net .nodes) (InD net lab t) deep deep′
-  pub area-marked : Marked (net .nodes) (InArea net lab t) area area′
-  pub ends-marked : Marked (net .nodes) (IsEnd net lab t) ends ends′
+-- D, the area and its ends are marked, no node has another role, and the entries beyond the nodes are as before.
+pub record AreaMarked (net : Net) (lab : ℕ → ℕ) (t : ℕ) (roles₀ roles : List ℕ) : Type 0 where
+  pub deep-marked : Marks (net .nodes) (InD net lab t) (deepIn roles)
+  pub area-marked : Marks (net .nodes) (InArea net lab t) (areaIn roles)
+  pub ends-marked : Marks (net .nodes) (IsEnd net lab t) (endsIn roles)
+  pub kinds : (v : ℕ) → v < net .nodes → (getD roles v 0 ≡ 0) ⊎ (4 ≤ getD roles v 0) × (getD roles v 0 ≤ 6)
+  pub rest : Beyond (net .nodes) roles₀ roles

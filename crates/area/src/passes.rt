@@ -1,15 +1,24 @@
 // The two passes that mark an area.
-use crate::arrays::fanin;
-use crate::arrays::fanin_count;
-use crate::arrays::label_of;
-use drawing::Label;
-use drawing::Node;
-ghost use Prim.Native.Nat.{max, _≤_};
+use storage::Label;
+use storage::Node;
+use storage::Numbers;
+use storage::lists::entry_at;
+use storage::lists::size_at;
+use storage::marks::label_of;
+use storage::roles::AREA;
+use storage::roles::AWAY;
+use storage::roles::BOTH;
+use storage::roles::DEEP;
+use storage::roles::END;
+use storage::roles::MET;
+ghost use Prim.Native.Nat.{max};
 ghost use mathlib.Core.Path.{_≡_};
 ghost use lib.ListN.{length};
-ghost use Rattle.walking.specs.Listing.{faninsAt};
-ghost use Rattle.area.specs.Area.{Fed, Marked};
-ghost use Rattle.area.specs.Passes.{Mark, IsDeep, SplitAsked, Split, FaninsMarked, EndsAsked, EndIn};
+ghost use Rattle.storage.specs.Marks.{Tells};
+ghost use Rattle.storage.specs.Lists.{listAt};
+ghost use Rattle.storage.specs.Roles.{metBit};
+ghost use Rattle.storage.specs.Drawings.{Fed};
+ghost use Rattle.area.specs.Passes.{IsDeep, Becomes, SplitAsked, Split, FaninsMarked, EndsAsked, EndsMarked};
 
 pub fn larger(a: Label, b: Label) -> Label
     ensures { λ r. ⌜ r .depth ≡ max (a .depth) (b .depth) ⌝ }
@@ -17,83 +26,72 @@ pub fn larger(a: Label, b: Label) -> Label
     if a.depth < b.depth { b } else { a }
 }
 
-// Inputs are never in D.
-fn deep_mark(inputs: usize, gate: Node, p: Label, node: Node, label: Label, met: u8) -> u8
-    requires { ⌜ met ≤ 1 ⌝ }
-    ensures { λ r. ⌜ Mark (IsDeep inputs (gate .id) (p .depth) (node .id) (label .depth) met) r ⌝ }
+fn is_met(role: u8) -> bool
+    ensures { λ r. ⌜ Tells (metBit role ≡ 1) r ⌝ }
+{
+    if role == MET {
+        return true;
+    }
+    role == BOTH
+}
+
+// What becomes of a node. Inputs are never in D.
+fn turned(inputs: usize, gate: Node, p: Label, node: Node, label: Label, role: u8) -> u8
+    ensures { λ r. ⌜ Becomes (IsDeep inputs (gate .id) (p .depth) (node .id) (label .depth) (metBit role)) (metBit role ≡ 1) r ⌝ }
 {
     if node.id == gate.id {
-        return 1;
+        return DEEP;
+    }
+    if !is_met(role) {
+        return AWAY;
     }
     if (node.id as usize) < inputs {
-        return 0;
+        return AREA;
     }
-    if label.depth == p.depth {
-        return met;
-    }
-    0
+    if label.depth == p.depth { DEEP } else { AREA }
 }
 
-fn area_mark(met: u8, deep: u8) -> u8
-    requires { ⌜ met ≤ 1 ⌝ }
-    ensures { λ r. ⌜ Mark ((met ≡ 1) × (deep ≡ 0)) r ⌝ }
+// Turns each node by itself: into D, the area or away.
+pub fn split(numbers: Numbers, gate: Node, labels: &[u16], p: Label, roles: &mut [u8])
+    requires { ⌜ SplitAsked (numbers .nodes) (now labels) (now roles) ⌝ }
+    ensures { λ _. ⌜ Split (numbers .inputs) (numbers .nodes) (gate .id) (p .depth) (now (labels .entry)) (now (roles .entry)) (now (roles .exit)) ⌝ }
 {
-    if deep == 0 { met } else { 0 }
-}
-
-// Marks D, and what is met outside D; clears the ends.
-pub fn split(
-    inputs: usize,
-    nodes: usize,
-    gate: Node,
-    labels: &[u16],
-    p: Label,
-    met: &[u8],
-    deep: &mut [u8],
-    area: &mut [u8],
-    ends: &mut [u8],
-)
-    requires { ⌜ SplitAsked nodes (now labels) (now met) (now deep) (now area) (now ends) ⌝ }
-    ensures { λ _. ⌜ Split inputs nodes (gate .id) (p .depth) (now (labels .entry)) (now (met .entry)) (now (deep .entry)) (now (deep .exit)) (now (area .entry)) (now (area .exit)) (now (ends .entry)) (now (ends .exit)) ⌝ }
-{
+    let inputs = numbers.inputs;
+    let nodes = numbers.nodes;
     let mut v: usize = 0;
     while v < nodes {
         let node = Node { id: v as u16 };
-        let within = deep_mark(inputs, gate, p, node, label_of(labels, node), met[v]);
-        deep[v] = within;
-        area[v] = area_mark(met[v], within);
-        ends[v] = 0;
+        roles[v] = turned(inputs, gate, p, node, label_of(labels, node), roles[v]);
         v += 1;
     }
 }
 
-// Marks the gate's fanins that lie in the area.
-fn mark_fanins(fan: &[u16], count: &[u8], gate: Node, area: &[u8], ends: &mut [u8])
-    requires { ⌜ Fed (now fan) (now count) (gate .id) (length (now area)) ⌝ }
-    requires { ⌜ Fed (now fan) (now count) (gate .id) (length (now ends)) ⌝ }
-    ensures { λ _. ⌜ FaninsMarked (faninsAt (now (fan .entry)) (now (count .entry)) (gate .id)) (now (area .entry)) (now (ends .entry)) (now (ends .exit)) ⌝ }
+// The gate's fanins that lie in the area are ends.
+fn mark_fanins(fanins: &[u16], gate: Node, roles: &mut [u8])
+    requires { ⌜ Fed (now fanins) (gate .id) (length (now roles)) ⌝ }
+    ensures { λ _. ⌜ FaninsMarked (listAt (now (fanins .entry)) (gate .id)) (now (roles .entry)) (now (roles .exit)) ⌝ }
 {
-    let m = fanin_count(count, gate);
+    let m = size_at(fanins, gate);
     let mut i: usize = 0;
     while i < m {
-        let u = fanin(fan, gate, i);
+        let u = entry_at(fanins, gate, i);
         let v = u.id as usize;
-        if area[v] == 1 {
-            ends[v] = 1;
+        if roles[v] == AREA {
+            roles[v] = END;
         }
         i += 1;
     }
 }
 
-// Marks the fanins of D that lie in the area.
-pub fn mark_ends(fan: &[u16], count: &[u8], nodes: usize, deep: &[u8], area: &[u8], ends: &mut [u8])
-    requires { ⌜ EndsAsked nodes (now fan) (now count) (now deep) (now area) (now ends) ⌝ }
-    ensures { λ _. ⌜ Marked nodes (EndIn nodes (now (fan .entry)) (now (count .entry)) (now (deep .entry)) (now (area .entry))) (now (ends .entry)) (now (ends .exit)) ⌝ }
+// The fanins of D that lie in the area are ends. No member of D is turned, so D stands in the roles while ends are marked there.
+pub fn mark_ends(nodes: usize, fanins: &[u16], roles: &mut [u8])
+    requires { ⌜ EndsAsked nodes (now fanins) (now roles) ⌝ }
+    ensures { λ _. ⌜ EndsMarked nodes (now (fanins .entry)) (now (roles .entry)) (now (roles .exit)) ⌝ }
 {
     let mut d: usize = 0;
     while d < nodes {
-        if deep[d] == 1 {
-            mark_fanins(fan, count, Node { id: d as u16 }, area, ends);
+        if roles[d] == DEEP {
+            mark_fanins(fanins, Node { id: d as u16 }, roles);
         }
         d += 1;
     }

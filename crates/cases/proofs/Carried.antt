@@ -1,6 +1,6 @@
 -- A test of a case in bytes, and the lemma that carries it, with what the theory shows of the drawing, to the definitions: the bytes read whole as the
 -- drawing's table, whose net is the drawing's.
-use Prim.Native.Nat.{ℕ, _<_}
+use Prim.Native.Nat.{ℕ, _+_, _<_}
 use native.Mathlib.Omega.{arith}
 use mathlib.Core.Path.{_≡_, sym, ap, _∙_, subst}
 use mathlib.Core.Logic.{_⊎_}
@@ -17,7 +17,7 @@ use Rattle.theory.specs.Cases as theory
 use Rattle.drawing.specs.declared.Verdict.the-variants.{Sound}
 use Rattle.drawing.specs.Table.{Table, netOf, tablesOf}
 use Rattle.drawing.specs.Fields.{headG}
-use Rattle.drawing.specs.Reading.{found, tableOf, headOf}
+use Rattle.drawing.specs.Reading.{found, tableOf, numbersOf}
 use Rattle.drawing.proofs.SoundTables.{SoundTable, table-sound}
 use Rattle.walking.specs.declared.Ordering.{Ordering}
 use Rattle.walking.specs.Promises.{LoopRuling}
@@ -31,7 +31,7 @@ use Rattle.keeping.proofs.Mappers.{lut-depth-is-label}
 use Rattle.keeping.specs.Printed.{mappingOf}
 use Rattle.keeping.proofs.One.{mappers-sheet-is-one, mapping-one}
 use Rattle.listing.specs.Text as text
-use Rattle.cases.specs.Cases.{Given, ByteCase, gateLine, tableFor, headFor, lastGate, claimAt, lutFor, sheetFor, SheetOf, SameSheet, MapsAs, loopNumber, Judged, Holds}
+use Rattle.cases.specs.Cases.{Given, ByteCase, gateLine, tableFor, numbersFor, lastGate, claimAt, lutFor, sheetFor, SheetOf, SameSheet, MapsAs, loopNumber, Judged, Holds}
 use Rattle.cases.proofs.Tests.{both, isSameNumbers, same-numbers, isSameTable, same-table, isSound, sound-verdict, areRoots, roots-rise, isFair, fair, isDeep, deep, Deep}
 use Rattle.cases.proofs.Nets.{net-is, tables-are}
 use Rattle.cases.proofs.Sheets.{mappers-sheet, lines-are}
@@ -79,8 +79,9 @@ module _ (s : List ℕ) (drawing : Drawing) (k : ℕ) (outputs : List ℕ) (test
   gates-are : headG s ≡ length (drawing .gates)
   gates-are = omega (arith, whole .size, ap (λ (t : Table). length (t .gates)) reads, length-map (drawing .gates) gateLine)
 
-  head-is : headOf s ≡ headFor drawing k
-  head-is i = record { k = record { leaves = reads i .k }; inputs = reads i .inputs; gates = gates-are i }
+  numbers-are : numbersOf s ≡ numbersFor drawing k outputs
+  numbers-are i =
+      record { k = record { leaves = reads i .k }; inputs = reads i .inputs; nodes = reads i .inputs + gates-are i; roots = length (reads i .outputs) }
 
   net-read : netOf (tableOf s) ≡ theory.netOf drawing
   net-read = ap netOf reads ∙ net-is drawing k outputs
@@ -110,9 +111,9 @@ module _ (s : List ℕ) (drawing : Drawing) (k : ℕ) (outputs : List ℕ) (test
         (subst (λ (tables : ℕ → ℕ). MappersSheet (theory.netOf drawing) tables k outputs sheet) (sym (tables-are drawing k outputs)) m)
 
   -- a loop, or none
-  says : {o : Ordering} → LoopRuling (theory.netOf drawing) o → Says s (afterOrder (headFor drawing k) (length outputs) o)
+  says : {o : Ordering} → LoopRuling (theory.netOf drawing) o → Says s (afterOrder (numbersFor drawing k outputs) o)
   says {o} ruling =
-      subst (Says s) (λ i. afterOrder (head-is i) (length (reads i .outputs)) o)
+      subst (Says s) (λ i. afterOrder (numbers-are i) o)
       (Says.ordered sound (subst (λ (net : Net). LoopRuling net o) (sym net-read) ruling))
 
 module _ (given : Given) (drawing : Drawing) (k : ℕ) (outputs : List ℕ) (claims : List Claim) (luts : List Lut) (depth : ℕ)

@@ -22,7 +22,9 @@ unfolding byteCases
 same-cases = refl
 
 all-so : every isSo byteCases ≡ true
-unfolding every isSo byteCases highFirst numberAt someFrom headVerdict gateVerdict outputVerdict gatesFrom outputsFrom found flatMap lineOfNode sheet.digits sheet.encode text.digit text.digits text.placesWithin text.places text.decimal text.hex16 text.numbered text.each text.leafText text.headLine text.lutLine text.outputLine text.listingOf text.refusedLine
+unfolding every isSo byteCases highFirst numberAt someFrom headVerdict gateVerdict outputVerdict gatesFrom outputsFrom found flatMap lineOfNode
+    sheet.digits sheet.encode text.digit text.digits text.placesWithin text.places text.decimal text.hex16 text.numbered text.each text.leafText
+    text.headLine text.lutLine text.outputLine text.listingOf text.refusedLine
 all-so = refl
 
 pub byte-cases-hold : (c : ByteCase) → List·Memᴰ c byteCases → Holds c

@@ -9,7 +9,7 @@ use lib.ListN.{length}
 use Rattle.theory.specs.Net.{Gate, Input}
 use Rattle.theory.specs.Cover.{Depth}
 use Rattle.theory.specs.Cases.{Drawn, Drawing, Claim, noClaim, Lut, Case, ofGate}
-use Rattle.drawing.specs.declared.Head.{Head}
+use Rattle.storage.specs.declared.Numbers.{Numbers}
 use Rattle.drawing.specs.Table.{GateLine, Table, netOf, tablesOf}
 use Rattle.drawing.specs.Reading.{tableOf}
 use Rattle.taking.specs.declared.Taking.the-variants.{Taken, LoopAt}
@@ -42,8 +42,9 @@ gateLine gate = record { fanins = gate .fanins; table = gate .table }
 abbrev pub tableFor : Drawing → (k : ℕ) → (outputs : List ℕ) → Table
 tableFor drawing k outputs = record { k = k; inputs = drawing .inputs; gates = map gateLine (drawing .gates); outputs = outputs }
 
-abbrev pub headFor : Drawing → (k : ℕ) → Head
-headFor drawing k = record { k = record { leaves = k }; inputs = drawing .inputs; gates = length (drawing .gates) }
+abbrev pub numbersFor : Drawing → (k : ℕ) → (outputs : List ℕ) → Numbers
+numbersFor drawing k outputs =
+    record { k = record { leaves = k }; inputs = drawing .inputs; nodes = drawing .inputs + length (drawing .gates); roots = length outputs }
 
 -- "the one output is the last gate"
 abbrev pub lastGate : Drawing → List ℕ
@@ -90,7 +91,7 @@ pub record SameSheet (table : Table) (claimed : sheet.Sheet) (given : Given) (ot
 -- The bytes are the drawing's table, and are taken; the sheet claimed is a mapper's sheet of it, and every mapper's sheet of it is that one.
 pub record MapsAs (given : Given) (drawing : Drawing) (k : ℕ) (outputs : List ℕ) (claimed : sheet.Sheet) : Type 0 where
   pub reads : tableOf (given .bytes) ≡ tableFor drawing k outputs
-  pub taken : Says (given .bytes) (Taken (headFor drawing k) (length outputs))
+  pub taken : Says (given .bytes) (Taken (numbersFor drawing k outputs))
   pub mappers : SheetOf (tableOf (given .bytes)) claimed
   pub only : (other : sheet.Sheet) → SheetOf (tableOf (given .bytes)) other → SameSheet (tableOf (given .bytes)) claimed given other
 

@@ -1,48 +1,32 @@
 -- Each promise has one answer: two replies that it allows are equal, and so are the later contents of what is lent.
-use Prim.Native.Nat.{ℕ, _≤_, _<_}
-use native.Mathlib.Decide.{decLt}
-use native.Mathlib.Omega.{arith}
+use Prim.Native.Nat.{ℕ}
 use mathlib.Core.Path.{_≡_, ap, sym, _∙_}
 use mathlib.Core.Logic.{_⊎_, inl, inr}
 use mathlib.Core.List.{List}
-use lib.ListN.{length, getD, take}
+use lib.ListN.{getD, take}
 use lib.Seq.{ext-getD}
+use Rattle.storage.specs.Drawings.{netIn, tablesIn}
+use Rattle.storage.proofs.Clears.{agree}
+use Rattle.storage.proofs.InMarks.{marks-inside}
 use Rattle.theory.proofs.Cones.{cone-table-only}
-use Rattle.drawing.specs.Table.{netIn, tablesIn}
 use Rattle.walking.proofs.Orders.{drawn-ranked}
-use Rattle.walking.proofs.Unique.{marks-inside}
-use Rattle.covering.specs.Scratch.{Cleared}
 use Rattle.covering.specs.Cones.{ConeAsked, ConeAnswered}
 use Rattle.covering.specs.Covers.{isRoot, lutCount, CoverMade, GateAmong, GatesMarked}
 
--- two lists that agree at the nodes, and beyond them with a third, are equal
-pub agree : (nodes : ℕ) (before a b : List ℕ) → length a ≡ length before → length b ≡ length before →
-    ((v : ℕ) → v < nodes → getD a v 0 ≡ getD b v 0) →
-    ((v : ℕ) → nodes ≤ v → getD a v 0 ≡ getD before v 0) → ((v : ℕ) → nodes ≤ v → getD b v 0 ≡ getD before v 0) → a ≡ b
-agree nodes before a b la lb inside oa ob = ext-getD 0 a b (la ∙ sym lb) (λ v _. by v (decLt v nodes))
-  where
-    by : (v : ℕ) → Dec (v < nodes) → getD a v 0 ≡ getD b v 0
-    by v (yes low) = inside v low
-    by v (no high) = let beyond : nodes ≤ v = omega arith in oa v beyond ∙ sym (ob v beyond)
+pub cone-answer-once : {inputs nodes k : ℕ} {fanins rows order : List ℕ} {t : ℕ} {leaves : List ℕ} {size room : ℕ} →
+    ConeAsked inputs nodes k fanins rows order t leaves size room → {before after after′ : List ℕ} {r r′ : ℕ} →
+    ConeAnswered inputs nodes fanins rows t leaves size before r after → ConeAnswered inputs nodes fanins rows t leaves size before r′ after′ →
+    (r ≡ r′) × (after ≡ after′)
+cone-answer-once {inputs} {nodes} {k} {fanins} {rows} {t = t} {leaves} {size} asked {r = r} {r′} p q =
+    let ranked = drawn-ranked (asked .drawing .drawn) (asked .drawing .ordered) in (
+      cone-table-only (netIn inputs nodes fanins) (tablesIn rows) ranked k t (take size leaves) (asked .cut) r r′ (p .table-is) (q .table-is),
+      p .values ∙ sym (q .values),
+    )
 
-pub cleared-once : (nodes : ℕ) (before a b : List ℕ) → Cleared nodes before a → Cleared nodes before b → a ≡ b
-cleared-once nodes before a b ca cb =
-    agree nodes before a b (ca .long) (cb .long) (λ v low. ca .zero v low ∙ sym (cb .zero v low)) (ca .beyond) (cb .beyond)
-
-module _ (inputs nodes : ℕ) (fan count rows order : List ℕ) (t : ℕ) (leaves : List ℕ) (size room : ℕ)
-    (asked : ConeAsked inputs nodes fan count rows order t leaves size room) where
-  pub cone-answer-once : {before after after′ : List ℕ} {r r′ : ℕ} → ConeAnswered inputs nodes fan count rows t leaves size before r after →
-      ConeAnswered inputs nodes fan count rows t leaves size before r′ after′ → (r ≡ r′) × (after ≡ after′)
-  cone-answer-once {before} {after} {after′} {r} {r′} p q = (
-    cone-table-only (netIn inputs nodes fan count) (tablesIn rows) (drawn-ranked (asked .drawn) (asked .ordered)) (asked .k) t (take size leaves) (asked .cut) r r′
-        (p .table-is) (q .table-is),
-    cleared-once nodes before after after′ (p .values) (q .values),
-  )
-
-pub cover-answer-once : (inputs nodes : ℕ) (leaves sizes outputs before : List ℕ) {after after′ : List ℕ} {r r′ : ℕ} →
-    CoverMade inputs nodes leaves sizes outputs before r after → CoverMade inputs nodes leaves sizes outputs before r′ after′ → (r ≡ r′) × (after ≡ after′)
-cover-answer-once inputs nodes leaves sizes outputs before {after} {after′} p q =
-    let same : after ≡ after′ = agree nodes before after after′ (p .long) (q .long) (marks-inside (p .marks) (q .marks)) (p .beyond) (q .beyond) in
+pub cover-answer-once : {inputs nodes : ℕ} {cuts outputs before after after′ : List ℕ} {r r′ : ℕ} →
+    CoverMade inputs nodes cuts outputs before r after → CoverMade inputs nodes cuts outputs before r′ after′ → (r ≡ r′) × (after ≡ after′)
+cover-answer-once {nodes = nodes} {after = after} {after′} p q =
+    let same : after ≡ after′ = agree (p .rest) (q .rest) (marks-inside (p .marks) (q .marks)) in
     (p .count ∙ ap (λ (l : List ℕ). lutCount (isRoot nodes l) nodes) same ∙ sym (q .count), same)
 
 pub gates-marked-once : {ids : List ℕ} {at many inputs : ℕ} {before after after′ : List ℕ} → GatesMarked ids at many inputs before after →

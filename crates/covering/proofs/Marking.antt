@@ -9,6 +9,8 @@ use mathlib.Core.List.{List, map}
 use lib.ListN.{length, getD, take, drop, set, length-set}
 use lib.Seq.{drop-cons, drop-length, getD-take, length-take-le}
 use lib.Dec.{eqb}
+use Rattle.storage.specs.Entries.{Beyond}
+use Rattle.storage.proofs.Clears.{drop-same}
 use Rattle.theory.specs.Lists.{greatest}
 use Rattle.theory.specs.Values.{bit}
 use Rattle.covering.specs.Covers.{isRoot, lutCount, GateMarked, GatesFit, GateAmong, GatesMarked, MarksFit}
@@ -78,27 +80,37 @@ module _ (ids : List ℕ) (at inputs : ℕ) where
           by (yes high) = rw (m .gate high) (gates-gate high)
           by (no low) = let less : getD ids (at + i) 0 < inputs = omega arith in rw (m .input less) (gates-input less)
 
+-- marks of gates below `nodes` leave what lies beyond
+pub marked-beyond : {ids : List ℕ} {at many inputs nodes : ℕ} {before after : List ℕ} → GatesMarked ids at many inputs before after →
+    ((v : ℕ) → GateAmong ids at many inputs v → v < nodes) → Beyond nodes before after
+marked-beyond {ids} {at} {many} {inputs} {nodes} {before} {after} m low =
+    record { size = m .long; beyond = drop-same nodes after before (m .long) (λ v far. kept v far (m .others v)) }
+  where
+    kept : (v : ℕ) → nodes ≤ v → (getD after v 0 ≡ getD before v 0) ⊎ GateAmong ids at many inputs v → getD after v 0 ≡ getD before v 0
+    kept v far (inl e) = e
+    kept v far (inr a) = absurd (omega (arith, low v a))
+
 -- Counts
 
 mark-bit : (m : ℕ) → (m ≡ 0) ⊎ (m ≡ 1) → bit (eqb m 1) ≡ m
 mark-bit m (inl e) = rw e
 mark-bit m (inr e) = rw e
 
-module _ (root : List ℕ) (nodes : ℕ) where
-  pub count-none : 0 ≡ lutCount (isRoot nodes root) 0
+module _ (marks : List ℕ) (nodes : ℕ) where
+  pub count-none : 0 ≡ lutCount (isRoot nodes marks) 0
   unfolding lutCount
   count-none = refl
 
-  pub count-more : (v : ℕ) {total : ℕ} → MarksFit root nodes → v < nodes → total ≡ lutCount (isRoot nodes root) v → total + getD root v 0 ≡ lutCount (isRoot nodes root) (v + 1)
+  pub count-more : (v : ℕ) {total : ℕ} → MarksFit marks nodes → v < nodes → total ≡ lutCount (isRoot nodes marks) v → total + getD marks v 0 ≡ lutCount (isRoot nodes marks) (v + 1)
   unfolding lutCount isRoot
   count-more v fit h e =
-      let here : bit (eqb (getD (take nodes root) v 0) 1) ≡ getD root v 0 = rw (getD-take nodes root v 0 h) (mark-bit (getD root v 0) (fit .bits v h)) in
+      let here : bit (eqb (getD (take nodes marks) v 0) 1) ≡ getD marks v 0 = rw (getD-take nodes marks v 0 h) (mark-bit (getD marks v 0) (fit .bits v h)) in
       rw (add-one v, e, here) (omega arith)
 
-  pub mark-small : (v : ℕ) → MarksFit root nodes → v < nodes → getD root v 0 ≤ 1
+  pub mark-small : (v : ℕ) → MarksFit marks nodes → v < nodes → getD marks v 0 ≤ 1
   mark-small v fit h = by (fit .bits v h)
     where
-      by : (getD root v 0 ≡ 0) ⊎ (getD root v 0 ≡ 1) → getD root v 0 ≤ 1
+      by : (getD marks v 0 ≡ 0) ⊎ (getD marks v 0 ≡ 1) → getD marks v 0 ≤ 1
       by (inl e) = omega arith
       by (inr e) = omega arith
 

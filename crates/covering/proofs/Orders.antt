@@ -1,38 +1,32 @@
 -- Gates and their places in an order that an array holds: its first n entries.
-use Prim.Native.Nat.{ℕ, _+_, _-_, _≤_, _<_}
+use Prim.Native.Nat.{ℕ, _+_, _*_, _-_, _≤_, _<_}
 use native.Mathlib.Omega.{arith}
 use mathlib.Core.Path.{_≡_, refl, sym, subst, _∙_}
 use mathlib.Core.List.{List, List·Memᴰ}
 use lib.ListN.{length, getD, take, length-take}
 use lib.Seq.{getD-take}
+use Rattle.storage.specs.Lists.{sizeAt}
+use Rattle.storage.specs.Drawings.{netIn, Ordered, Arranged}
+use Rattle.storage.proofs.Entries.{PartPlace, part-place, member-of-part, one-place}
+use Rattle.storage.proofs.Drawings.{gate-of, gate-above, gate-below, drawn-span}
 use Rattle.theory.specs.Net.{Net, Gate}
 use Rattle.theory.specs.Sound.{Bounded}
 use Rattle.theory.specs.Walk.{Walked, Met}
 use Rattle.theory.proofs.Walks.{reader-is-gate, walked-node, met-node}
-use Rattle.drawing.specs.Table.{netIn}
-use Rattle.walking.specs.Arrays.{Ordered}
-use Rattle.walking.proofs.Entries.{PartPlace, part-place, member-of-part, one-place}
+use Rattle.covering.specs.Covers.{Chosen, Needed}
 
-module _ (inputs nodes : ℕ) (fan count : List ℕ) {v : ℕ} where
-  pub gate-of : inputs ≤ v → v < nodes → Gate (netIn inputs nodes fan count) v
-  unfolding netIn
-  gate-of above below = record { above = above; below = below }
-
-  pub gate-above : Gate (netIn inputs nodes fan count) v → inputs ≤ v
-  unfolding netIn
-  gate-above gate = gate .above
-
-  pub gate-below : Gate (netIn inputs nodes fan count) v → v < nodes
-  unfolding netIn
-  gate-below gate = gate .below
+-- what is needed is a gate
+pub needed-gate : {chosen : Net} {outputs : List ℕ} {v : ℕ} → Needed chosen outputs v → Gate chosen v
+needed-gate (Needed.output m gate) = gate
+needed-gate (Needed.leaf n m gate) = gate
 
 -- gates are the same whatever else the arrays hold
-module _ (inputs nodes : ℕ) (fan count leaves sizes : List ℕ) where
-  pub gate-there : {v : ℕ} → Gate (netIn inputs nodes fan count) v → Gate (netIn inputs nodes leaves sizes) v
-  gate-there gate = gate-of inputs nodes leaves sizes (gate-above inputs nodes fan count gate) (gate-below inputs nodes fan count gate)
+module _ (inputs nodes : ℕ) (fanins cuts : List ℕ) where
+  pub gate-there : {v : ℕ} → Gate (netIn inputs nodes fanins) v → Gate (netIn inputs nodes cuts) v
+  gate-there gate = gate-of inputs nodes cuts (gate-above inputs nodes fanins gate) (gate-below inputs nodes fanins gate)
 
-  same-size : (n : ℕ) → netIn inputs nodes fan count .inputs + n ≡ netIn inputs nodes fan count .nodes →
-      netIn inputs nodes leaves sizes .inputs + n ≡ netIn inputs nodes leaves sizes .nodes
+  same-size : (n : ℕ) → netIn inputs nodes fanins .inputs + n ≡ netIn inputs nodes fanins .nodes →
+      netIn inputs nodes cuts .inputs + n ≡ netIn inputs nodes cuts .nodes
   unfolding netIn
   same-size n e = e
 
@@ -81,31 +75,50 @@ module _ {net : Net} (n : ℕ) (order : List ℕ) (long : n ≤ length order) (o
         reader-place (walked-place (m .walked) (reader-is-gate bounded (walked-node bounded (t-gate .below) (m .walked)) (m .feeds))) (m .feeds) gate
 
 -- Leaves that are met by walks from their gates come before them, so the order is one of the net of the leaves.
-module _ (inputs nodes k : ℕ) (fan count order leaves sizes : List ℕ) (bounded : Bounded (netIn inputs nodes fan count) k)
-    (order-long : nodes - inputs ≤ length order) (ordered : Ordered (netIn inputs nodes fan count) (take (nodes - inputs) order))
-    (stop : ℕ → List ℕ)
-    (leaf-met : (g u : ℕ) → Gate (netIn inputs nodes fan count) g → List·Memᴰ u (netIn inputs nodes leaves sizes .fanins g) →
-    Met (netIn inputs nodes fan count) (stop g) g u) where
-  pub order-of-leaves : Ordered (netIn inputs nodes leaves sizes) (take (nodes - inputs) order)
+module _ (inputs nodes k : ℕ) (fanins order cuts : List ℕ) (drawing : Arranged inputs nodes k fanins order) (stop : ℕ → List ℕ)
+    (leaf-met : (g u : ℕ) → Gate (netIn inputs nodes fanins) g → List·Memᴰ u (netIn inputs nodes cuts .fanins g) →
+    Met (netIn inputs nodes fanins) (stop g) g u) where
+  abbrev gates : ℕ
+  gates = nodes - inputs
+
+  long : gates ≤ length order
+  long = omega (arith, drawing .order-long)
+
+  order-of-leaves : Ordered (netIn inputs nodes cuts) (take gates order)
   order-of-leaves =
       record {
-        size = same-size inputs nodes fan count leaves sizes (length (take (nodes - inputs) order)) (ordered .size);
-        gates = λ v m. gate-there inputs nodes fan count leaves sizes (ordered .gates v m);
-        all = λ v gate. ordered .all v (gate-there inputs nodes leaves sizes fan count gate);
-        once = ordered .once;
+        size = same-size inputs nodes fanins cuts (length (take gates order)) (drawing .ordered .size);
+        gates = λ v m. gate-there inputs nodes fanins cuts (drawing .ordered .gates v m);
+        all = λ v gate. drawing .ordered .all v (gate-there inputs nodes cuts fanins gate);
+        once = drawing .ordered .once;
         before = before;
       }
     where
-      before : (i u : ℕ) → i < length (take (nodes - inputs) order) →
-          List·Memᴰ u (netIn inputs nodes leaves sizes .fanins (getD (take (nodes - inputs) order) i 0)) → Gate (netIn inputs nodes leaves sizes) u →
-          (j : ℕ) × (j < i) × (getD (take (nodes - inputs) order) j 0 ≡ u)
-      before i u inside m gate =
-          let low : i < nodes - inputs = omega (arith, length-take (nodes - inputs) order) in
-          let here = order-gate (nodes - inputs) order order-long ordered i low in
-          let leaf = rw (getD-take (nodes - inputs) order i 0 low) at m in
-          let (j, less, e) = met-place (nodes - inputs) order order-long ordered bounded i low refl (leaf-met (getD order i 0) u here leaf) (gate-there inputs nodes leaves sizes fan count gate) in
-          (j, less, getD-take (nodes - inputs) order j 0 (omega arith) ∙ e)
+      entry-there : {i u : ℕ} → i < gates → (j : ℕ) × (j < i) × (getD order j 0 ≡ u) → (j : ℕ) × (j < i) × (getD (take gates order) j 0 ≡ u)
+      entry-there low (j, less, e) = (j, less, getD-take gates order j 0 (omega arith) ∙ e)
 
-  pub leaf-node : {g v : ℕ} → Gate (netIn inputs nodes fan count) g → List·Memᴰ v (netIn inputs nodes leaves sizes .fanins g) → v < nodes
+      before : (i u : ℕ) → i < length (take gates order) → List·Memᴰ u (netIn inputs nodes cuts .fanins (getD (take gates order) i 0)) →
+          Gate (netIn inputs nodes cuts) u → (j : ℕ) × (j < i) × (getD (take gates order) j 0 ≡ u)
+      before i u inside m gate =
+          let low : i < gates = omega (arith, length-take gates order) in
+          let here = order-gate gates order long (drawing .ordered) i low in
+          let leaf = rw (getD-take gates order i 0 low) at m in
+          let met = leaf-met (getD order i 0) u here leaf in
+          let gate-u = gate-there inputs nodes cuts fanins gate in
+          entry-there low (met-place gates order long (drawing .ordered) (drawing .drawn .bounded) i low refl met gate-u)
+
+  leaf-node : {g v : ℕ} → Gate (netIn inputs nodes fanins) g → List·Memᴰ v (netIn inputs nodes cuts .fanins g) → v < nodes
   unfolding netIn
-  leaf-node {g} {v} gate m = met-node bounded (gate .below) (leaf-met g v gate m)
+  leaf-node {g} {v} gate m = met-node (drawing .drawn .bounded) (gate .below) (leaf-met g v gate m)
+
+  -- such leaves are all that `cover` needs
+  pub leaves-chosen : 7 * nodes ≤ length cuts → ((g : ℕ) → Gate (netIn inputs nodes fanins) g → sizeAt cuts g ≤ 6) → Chosen inputs nodes order cuts
+  leaves-chosen cuts-long six =
+      record {
+        span = drawn-span (drawing .drawn);
+        order-long = drawing .order-long;
+        cuts-long = cuts-long;
+        six = λ g gate. six g (gate-there inputs nodes cuts fanins gate);
+        leaf-nodes = λ g gate v m. leaf-node (gate-there inputs nodes cuts fanins gate) m;
+        ordered = order-of-leaves;
+      }

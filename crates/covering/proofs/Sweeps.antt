@@ -1,6 +1,6 @@
 -- The steps of `cone_table`: the row that values make, the leaves' bits, and a pass along the order, each one entry at a time. A pass keeps
 -- what it has computed, since no gate reads itself or a later one.
-use Prim.Native.Nat.{ℕ, _+_, _*_, _%_, _≤_, _<_}
+use Prim.Native.Nat.{ℕ, _+_, _*_, _-_, _%_, _≤_, _<_}
 use native.Mathlib.Nat.{lt-of-lt-of-le}
 use native.Mathlib.Decide.{decLt}
 use native.Mathlib.Numerals.{add-one}
@@ -10,13 +10,13 @@ use mathlib.Core.Logic.{_⊎_, inl, inr}
 use mathlib.Core.Bool.{Bool, true, false}
 use mathlib.Core.List.{List, map, List·Memᴰ}
 use lib.ListN.{length, getD, take, drop, set, length-map, length-take, length-drop, length-set}
-use lib.Seq.{drop-cons, drop-length, getD-take, getD-drop, getD-set-same, getD-set-other}
+use lib.Seq.{take-all, drop-drop, drop-cons, drop-length, getD-take, getD-drop, getD-set-same, getD-set-other}
 use lib.Pow.{pow-mono}
+use Rattle.storage.specs.Lists.{sizeAt, listAt}
 use Rattle.theory.specs.Values.{bit, rowOf, resultAt}
 use Rattle.theory.proofs.Rows.{bit-below, result-lowest, row-below}
 use Rattle.theory.proofs.Picks.{map-agree}
-use Rattle.walking.specs.Listing.{faninsAt}
-use Rattle.covering.specs.Cones.{valueIn, resultIn, GateFits, GateSettled, SweepFits, Swept, LeavesFit, LeavesSet}
+use Rattle.covering.specs.Cones.{valueIn, resultIn, RowFits, GateFits, GateSettled, SweepFits, Swept, LeavesFit, LeavesSet}
 use Rattle.covering.proofs.Stores.{stored-or-kept}
 
 -- Values
@@ -106,14 +106,42 @@ module _ (leaves : List ℕ) (size row : ℕ) (before : List ℕ) where
 
 -- One gate
 
-module _ (fan count rows : List ℕ) (v : ℕ) (values : List ℕ) where
+module _ (fanins rows : List ℕ) (v : ℕ) (values : List ℕ) where
   abbrev pub rowAt : ℕ
-  rowAt = rowOf (map (valueIn values) (faninsAt fan count v))
+  rowAt = rowOf (map (valueIn values) (listAt fanins v))
 
-  pub gate-row-small : GateFits fan count rows v (length values) → rowAt < 64
-  gate-row-small fit = row-small (valueIn values) (faninsAt fan count v) (simp length-take (omega (arith, fit .row .few)))
+  -- the places from the gate's own on, which are lent
+  abbrev gatePart : List ℕ
+  gatePart = take (length fanins - 7 * v) (drop (7 * v) fanins)
 
-  pub gate-stored : {row r : ℕ} → row ≡ rowAt → r ≡ bit (resultAt (getD rows v 0) row) → getD values v 0 < 2 → GateSettled fan count rows v values (set values v r)
+  part-is : gatePart ≡ drop (7 * v) fanins
+  part-is = take-all (length fanins - 7 * v) (drop (7 * v) fanins) (simp length-drop (omega arith))
+
+  -- the size that was read is at most 6, so that its remainder by 8, which the code takes, is the size itself
+  pub part-fits : {size room : ℕ} → size ≡ sizeAt fanins v → RowFits fanins (7 * v + 1) (sizeAt fanins v) room → RowFits gatePart 1 (size % 8) room
+  part-fits {size} is fit =
+      let same : size % 8 ≡ sizeAt fanins v = omega (arith, fit .few) in
+      rw (part-is, same)
+      (record {
+        inside = simp length-drop (omega (arith, fit .inside));
+        few = fit .few;
+        nodes = λ i low.
+            let place : 7 * v + (1 + i) ≡ 7 * v + 1 + i = omega arith in
+            rw (getD-drop (7 * v) fanins (1 + i) 0, place) (fit .nodes i low);
+      })
+
+  -- the row of a list whose size was read
+  pub gate-row : {row size : ℕ} → row ≡ rowOf (map (valueIn values) (take (size % 8) (drop 1 gatePart))) → size ≡ sizeAt fanins v →
+      sizeAt fanins v ≤ 6 → row ≡ rowAt
+  gate-row {size = size} e is few =
+      let same : size % 8 ≡ sizeAt fanins v = omega arith in
+      e ∙ ap (λ (n : ℕ). rowOf (map (valueIn values) (take n (drop 1 gatePart)))) same
+      ∙ ap (λ (l : List ℕ). rowOf (map (valueIn values) (take (sizeAt fanins v) l))) (ap (drop 1) part-is ∙ drop-drop 1 (7 * v) fanins)
+
+  pub gate-row-small : GateFits fanins rows v (length values) → rowAt < 64
+  gate-row-small fit = row-small (valueIn values) (listAt fanins v) (simp length-take (omega (arith, fit .row .few)))
+
+  pub gate-stored : {row r : ℕ} → row ≡ rowAt → r ≡ bit (resultAt (getD rows v 0) row) → getD values v 0 < 2 → GateSettled fanins rows v values (set values v r)
   unfolding resultIn
   gate-stored e result free =
       record {
@@ -121,13 +149,13 @@ module _ (fan count rows : List ℕ) (v : ℕ) (values : List ℕ) where
         gate = λ _. ap (set values v) (result ∙ ap (λ (n : ℕ). bit (resultAt (getD rows v 0) n)) e);
       }
 
-  pub leaf-kept : 2 ≤ getD values v 0 → GateSettled fan count rows v values values
+  pub leaf-kept : 2 ≤ getD values v 0 → GateSettled fanins rows v values values
   leaf-kept large = record { leaf = λ _. refl; gate = λ small. absurd (omega arith) }
 
 -- A pass along the order
 
-module _ (fan count rows order : List ℕ) (before : List ℕ) where
-  pub swept-none : Swept fan count rows order 0 before before
+module _ (fanins rows order : List ℕ) (before : List ℕ) where
+  pub swept-none : Swept fanins rows order 0 before before
   swept-none =
       record {
         long = refl;
@@ -137,9 +165,9 @@ module _ (fan count rows order : List ℕ) (before : List ℕ) where
         results = λ i h. absurd (omega arith);
       }
 
-  module _ (upto i : ℕ) (fit : SweepFits fan count rows order upto (length before)) (h : i < upto) {now : List ℕ} (so-far : Swept fan count rows order i before now) where
+  module _ (upto i : ℕ) (fit : SweepFits fanins rows order upto (length before)) (h : i < upto) {now : List ℕ} (so-far : Swept fanins rows order i before now) where
     -- the i-th gate is a leaf: nothing is stored
-    swept-leaf : 2 ≤ getD before (getD order i 0) 0 → Swept fan count rows order (i + 1) before now
+    swept-leaf : 2 ≤ getD before (getD order i 0) 0 → Swept fanins rows order (i + 1) before now
     swept-leaf leaf =
         record {
           long = so-far .long;
@@ -151,7 +179,7 @@ module _ (fan count rows order : List ℕ) (before : List ℕ) where
 
     module _ (gate : getD before (getD order i 0) 0 < 2) where
       after : List ℕ
-      after = set now (getD order i 0) (bit (resultIn fan count rows now (getD order i 0)))
+      after = set now (getD order i 0) (bit (resultIn fanins rows now (getD order i 0)))
 
       room : getD order i 0 < length now
       room = omega (arith, fit .gates i h .values-long, so-far .long)
@@ -160,47 +188,47 @@ module _ (fan count rows order : List ℕ) (before : List ℕ) where
       unfolding after
       kept v apart = getD-set-other now (getD order i 0) v _ 0 apart
 
-      stored : valueIn after (getD order i 0) ≡ resultIn fan count rows now (getD order i 0)
+      stored : valueIn after (getD order i 0) ≡ resultIn fanins rows now (getD order i 0)
       unfolding after
       stored = value-of-gate _ (getD order i 0) (getD-set-same now (getD order i 0) _ 0 room)
 
       -- what the gates up to here read is as it was
-      same-result : (j : ℕ) → j ≤ i → resultIn fan count rows after (getD order j 0) ≡ resultIn fan count rows now (getD order j 0)
+      same-result : (j : ℕ) → j ≤ i → resultIn fanins rows after (getD order j 0) ≡ resultIn fanins rows now (getD order j 0)
       unfolding resultIn
       same-result j less =
           ap (λ (bs : List Bool). resultAt (getD rows (getD order j 0) 0) (rowOf bs))
-          (map-agree (valueIn after) (valueIn now) (faninsAt fan count (getD order j 0)) (λ u m.
-          same-value after now u (kept u (λ e. fit .earlier j i less h (subst (λ (w : ℕ). List·Memᴰ w (faninsAt fan count (getD order j 0))) e m)))))
+          (map-agree (valueIn after) (valueIn now) (listAt fanins (getD order j 0)) (λ u m.
+          same-value after now u (kept u (λ e. fit .earlier j i less h (subst (λ (w : ℕ). List·Memᴰ w (listAt fanins (getD order j 0))) e m)))))
 
-      swept-gate : Swept fan count rows order (i + 1) before after
+      swept-gate : Swept fanins rows order (i + 1) before after
       unfolding after
       swept-gate =
           record {
             long = simp length-set (so-far .long);
             leaves = λ v leaf. kept v (λ e. let same = ap (λ (w : ℕ). getD before w 0) e in omega arith) ∙ so-far .leaves v leaf;
-            gates = λ v free. small v free (stored-or-kept now (getD order i 0) (bit (resultIn fan count rows now (getD order i 0))) v room);
+            gates = λ v free. small v free (stored-or-kept now (getD order i 0) (bit (resultIn fanins rows now (getD order i 0))) v room);
             others = λ v free. kept v (λ e. free i (omega arith) (sym e)) ∙ so-far .others v (λ j less. free j (omega arith));
             results = λ j less free. at j less free (decLt j i);
           }
         where
           small : (v : ℕ) → getD before v 0 < 2 →
-              ((v ≡ getD order i 0) × (getD after v 0 ≡ bit (resultIn fan count rows now (getD order i 0))))
+              ((v ≡ getD order i 0) × (getD after v 0 ≡ bit (resultIn fanins rows now (getD order i 0))))
               ⊎ ((v ≡ getD order i 0 → ⊥) × (getD after v 0 ≡ getD now v 0)) → getD after v 0 < 2
-          small v free (inl (e, new)) = omega (arith, new, bit-below (resultIn fan count rows now (getD order i 0)))
+          small v free (inl (e, new)) = omega (arith, new, bit-below (resultIn fanins rows now (getD order i 0)))
           small v free (inr (apart, old)) = omega (arith, old, so-far .gates v free)
 
-          at : (j : ℕ) → j < i + 1 → getD before (getD order j 0) 0 < 2 → Dec (j < i) → valueIn after (getD order j 0) ≡ resultIn fan count rows after (getD order j 0)
+          at : (j : ℕ) → j < i + 1 → getD before (getD order j 0) 0 < 2 → Dec (j < i) → valueIn after (getD order j 0) ≡ resultIn fanins rows after (getD order j 0)
           at j less free (yes l) =
               same-value after now (getD order j 0) (kept (getD order j 0) (fit .once j i l h)) ∙ so-far .results j l free ∙ sym (same-result j (omega arith))
           at j less free (no l) =
               let e : i ≡ j = omega arith in
-              subst (λ (n : ℕ). valueIn after (getD order n 0) ≡ resultIn fan count rows after (getD order n 0)) e (stored ∙ sym (same-result i (omega arith)))
+              subst (λ (n : ℕ). valueIn after (getD order n 0) ≡ resultIn fanins rows after (getD order n 0)) e (stored ∙ sym (same-result i (omega arith)))
 
-    pub swept-more : {next : List ℕ} → GateSettled fan count rows (getD order i 0) now next → Swept fan count rows order (i + 1) before next
+    pub swept-more : {next : List ℕ} → GateSettled fanins rows (getD order i 0) now next → Swept fanins rows order (i + 1) before next
     unfolding after
     swept-more {next} settled = by (decLt (getD before (getD order i 0) 0) 2)
       where
-        by : Dec (getD before (getD order i 0) 0 < 2) → Swept fan count rows order (i + 1) before next
+        by : Dec (getD before (getD order i 0) 0 < 2) → Swept fanins rows order (i + 1) before next
         by (yes gate) = rw (settled .gate (so-far .gates (getD order i 0) gate)) (swept-gate gate)
         by (no leaf) =
             let large : 2 ≤ getD before (getD order i 0) 0 = omega arith in

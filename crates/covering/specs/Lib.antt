@@ -1,3 +1,2 @@
-pub mod Scratch
 pub mod Cones
 pub mod Covers

@@ -1,14 +1,18 @@
 // The function of a cone, as a table. The gates are evaluated along the order, once a row, into a word a node: a gate's value is 0 or 1,
 // a leaf's 2 or 3, so that the pass along the order knows what it must not compute.
-use crate::marks::clear_words;
-use drawing::CutSize;
-use drawing::Node;
+use storage::CutSize;
+use storage::Node;
+use storage::Numbers;
+use storage::columns::clear_words;
+use storage::lists::PLACES;
+use storage::lists::size_at;
 ghost use mathlib.Core.Path.{_≡_};
 ghost use mathlib.Core.List.{map};
 ghost use Prim.Native.Nat.{_+_, _*_, _^_, _≤_, _<_};
 ghost use lib.ListN.{length, take, drop};
+ghost use Rattle.storage.specs.Lists.{Place};
 ghost use Rattle.theory.specs.Values.{bit, rowOf, resultAt};
-ghost use Rattle.covering.specs.Cones.{ConeAsked, ConeAnswered, valueIn, RowFits, GateFits, GateSettled, SweepFits, Swept, LeavesFit, LeavesSet, Stands, FirstPlace};
+ghost use Rattle.covering.specs.Cones.{ConeAsked, ConeAnswered, valueIn, RowFits, GateFits, GateSettled, SweepFits, Swept, LeavesFit, LeavesSet, FirstPlace};
 
 // The result of a table at a row.
 fn result_at(table: u64, row: u64) -> u64
@@ -64,7 +68,7 @@ fn set_leaves(leaves: &[u16], size: usize, row: u64, values: &mut [u64])
 
 // Where the gate stands in the order.
 fn place_of(order: &[u16], gate: Node) -> usize
-    requires { ⌜ Stands (now order) (gate .id) ⌝ }
+    requires { ⌜ Place (gate .id) (now order) ⌝ }
     ensures { λ r. ⌜ FirstPlace (now (order .entry)) (gate .id) r ⌝ }
 {
     let id = gate.id;
@@ -75,26 +79,29 @@ fn place_of(order: &[u16], gate: Node) -> usize
     i
 }
 
-// The gate's value is stored, unless the gate is a leaf.
-fn settle_gate(fan: &[u16], count: &[u8], rows: &[u64], gate: Node, values: &mut [u64])
-    requires { ⌜ GateFits (now fan) (now count) (now rows) (gate .id) (length (now values)) ⌝ }
-    ensures { λ _. ⌜ GateSettled (now (fan .entry)) (now (count .entry)) (now (rows .entry)) (gate .id) (now (values .entry)) (now (values .exit)) ⌝ }
+// The gate's value is stored, unless the gate is a leaf. Its places are lent as a slice of their own, so that they are found once; the
+// remainder is the size itself, and shows the compiler that the loop over the fanins is short enough to be laid out in full.
+fn settle_gate(fanins: &[u16], rows: &[u64], gate: Node, values: &mut [u64])
+    requires { ⌜ GateFits (now fanins) (now rows) (gate .id) (length (now values)) ⌝ }
+    ensures { λ _. ⌜ GateSettled (now (fanins .entry)) (now (rows .entry)) (gate .id) (now (values .entry)) (now (values .exit)) ⌝ }
 {
     let v = gate.id as usize;
     if values[v] < 2 {
-        let row = row_of(fan, 6 * v, count[v] as usize, values);
+        let at = PLACES * v;
+        let row = row_of(&fanins[at..], 1, size_at(fanins, gate) % 8, values);
         values[v] = result_at(rows[v], row);
     }
 }
 
 // The gates among the first `upto` of the order that are no leaves get their values: one pass, so that no gate is computed twice.
-fn sweep(fan: &[u16], count: &[u8], rows: &[u64], order: &[u16], upto: usize, values: &mut [u64])
-    requires { ⌜ SweepFits (now fan) (now count) (now rows) (now order) upto (length (now values)) ⌝ }
-    ensures { λ _. ⌜ Swept (now (fan .entry)) (now (count .entry)) (now (rows .entry)) (now (order .entry)) upto (now (values .entry)) (now (values .exit)) ⌝ }
+fn sweep(fanins: &[u16], rows: &[u64], order: &[u16], upto: usize, values: &mut [u64])
+    requires { ⌜ SweepFits (now fanins) (now rows) (now order) upto (length (now values)) ⌝ }
+    ensures { λ _. ⌜ Swept (now (fanins .entry)) (now (rows .entry)) (now (order .entry)) upto (now (values .entry))
+        (now (values .exit)) ⌝ }
 {
     let mut i = 0;
     while i < upto {
-        settle_gate(fan, count, rows, Node { id: order[i] }, values);
+        settle_gate(fanins, rows, Node { id: order[i] }, values);
         i += 1;
     }
 }
@@ -102,21 +109,21 @@ fn sweep(fan: &[u16], count: &[u8], rows: &[u64], order: &[u16], upto: usize, va
 // The table of the cone of `gate` over the first `size` leaves, row by row; gates that come after `gate` in the order are not computed.
 // Whatever the values held, their first `nodes` words are left at 0. (A word a node is room for all rows at once.)
 pub fn cone_table(
-    fan: &[u16],
-    count: &[u8],
+    numbers: Numbers,
+    fanins: &[u16],
     rows: &[u64],
-    inputs: usize,
-    nodes: usize,
     order: &[u16],
     gate: Node,
     leaves: &[u16],
     size: CutSize,
     values: &mut [u64],
 ) -> u64
-    requires { ⌜ ConeAsked inputs nodes (now fan) (now count) (now rows) (now order) (gate .id) (now leaves) (size .leaves) (length (now values)) ⌝ }
-    ensures { λ r. ⌜ ConeAnswered inputs nodes (now (fan .entry)) (now (count .entry)) (now (rows .entry)) (gate .id) (now (leaves .entry)) (size .leaves) (now (values .entry)) r (now (values .exit)) ⌝ }
+    requires { ⌜ ConeAsked (numbers .inputs) (numbers .nodes) (numbers .k .leaves) (now fanins) (now rows) (now order) (gate .id)
+        (now leaves) (size .leaves) (length (now values)) ⌝ }
+    ensures { λ r. ⌜ ConeAnswered (numbers .inputs) (numbers .nodes) (now (fanins .entry)) (now (rows .entry)) (gate .id)
+        (now (leaves .entry)) (size .leaves) (now (values .entry)) r (now (values .exit)) ⌝ }
 {
-    clear_words(values, nodes);
+    clear_words(values, numbers.nodes);
     let upto = place_of(order, gate) + 1;
     let many = size.leaves as usize;
     let all = rows_of(size);
@@ -125,10 +132,10 @@ pub fn cone_table(
     let mut row: u64 = 0;
     while row < all {
         set_leaves(leaves, many, row, values);
-        sweep(fan, count, rows, order, upto, values);
+        sweep(fanins, rows, order, upto, values);
         table = with_row(table, row, values[at] % 2);
         row += 1;
     }
-    clear_words(values, nodes);
+    clear_words(values, numbers.nodes);
     table
 }

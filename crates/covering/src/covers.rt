@@ -1,7 +1,10 @@
 // The LUTs that the outputs need: "the output gates, then their gate leaves, and so back to the inputs; a gate needed twice stands once."
-use crate::marks::clear;
-use drawing::Label;
-use drawing::Node;
+use storage::Label;
+use storage::Node;
+use storage::Numbers;
+use storage::lists::PLACES;
+use storage::lists::size_at;
+use storage::marks::clear;
 ghost use mathlib.Core.Path.{_≡_};
 ghost use mathlib.Core.List.{map};
 ghost use Prim.Native.Nat.{max, _<_};
@@ -10,76 +13,77 @@ ghost use Rattle.theory.specs.Lists.{greatest};
 ghost use Rattle.covering.specs.Covers.{CoverAsked, CoverMade, isRoot, lutCount, GateMarked, GatesFit, GatesMarked, CutFits, LeavesMarked, MarksFit, DepthAsked};
 
 // A gate is marked, an input is not.
-fn mark_gate(node: Node, inputs: usize, root: &mut [u8])
-    requires { ⌜ node .id < length (now root) ⌝ }
-    ensures { λ _. ⌜ GateMarked (node .id) inputs (now (root .entry)) (now (root .exit)) ⌝ }
+fn mark_gate(node: Node, inputs: usize, marks: &mut [u8])
+    requires { ⌜ node .id < length (now marks) ⌝ }
+    ensures { λ _. ⌜ GateMarked (node .id) inputs (now (marks .entry)) (now (marks .exit)) ⌝ }
 {
     let v = node.id as usize;
     if inputs <= v {
-        root[v] = 1;
+        marks[v] = 1;
     }
 }
 
 // The gates among the `many` nodes from place `at` on are marked.
-pub fn mark_gates(ids: &[u16], at: usize, many: usize, inputs: usize, root: &mut [u8])
-    requires { ⌜ GatesFit (now ids) at many (length (now root)) ⌝ }
-    ensures { λ _. ⌜ GatesMarked (now (ids .entry)) at many inputs (now (root .entry)) (now (root .exit)) ⌝ }
+pub fn mark_gates(ids: &[u16], at: usize, many: usize, inputs: usize, marks: &mut [u8])
+    requires { ⌜ GatesFit (now ids) at many (length (now marks)) ⌝ }
+    ensures { λ _. ⌜ GatesMarked (now (ids .entry)) at many inputs (now (marks .entry)) (now (marks .exit)) ⌝ }
 {
     let mut i = 0;
     while i < many {
-        mark_gate(Node { id: ids[at + i] }, inputs, root);
+        mark_gate(Node { id: ids[at + i] }, inputs, marks);
         i += 1;
     }
 }
 
 // If the gate is a root, its leaves that are gates are marked.
-fn mark_leaves(leaves: &[u16], sizes: &[u8], gate: Node, inputs: usize, root: &mut [u8])
-    requires { ⌜ CutFits (now leaves) (now sizes) (gate .id) (length (now root)) ⌝ }
-    ensures { λ _. ⌜ LeavesMarked (now (leaves .entry)) (now (sizes .entry)) (gate .id) inputs (now (root .entry)) (now (root .exit)) ⌝ }
+fn mark_leaves(cuts: &[u16], gate: Node, inputs: usize, luts: &mut [u8])
+    requires { ⌜ CutFits (now cuts) (gate .id) (length (now luts)) ⌝ }
+    ensures { λ _. ⌜ LeavesMarked (now (cuts .entry)) (gate .id) inputs (now (luts .entry)) (now (luts .exit)) ⌝ }
 {
     let v = gate.id as usize;
-    if root[v] == 1 {
-        mark_gates(leaves, 6 * v, sizes[v] as usize, inputs, root);
+    if luts[v] == 1 {
+        mark_gates(cuts, PLACES * v + 1, size_at(cuts, gate), inputs, luts);
     }
 }
 
 // How many of the first `nodes` marks are set.
-fn count_marks(root: &[u8], nodes: usize) -> usize
-    requires { ⌜ MarksFit (now root) nodes ⌝ }
-    ensures { λ r. ⌜ r ≡ lutCount (isRoot nodes (now (root .entry))) nodes ⌝ }
+fn count_marks(marks: &[u8], nodes: usize) -> usize
+    requires { ⌜ MarksFit (now marks) nodes ⌝ }
+    ensures { λ r. ⌜ r ≡ lutCount (isRoot nodes (now (marks .entry))) nodes ⌝ }
 {
     let mut total: usize = 0;
     let mut v = 0;
     while v < nodes {
-        total += root[v] as usize;
+        total += marks[v] as usize;
         v += 1;
     }
     total
 }
 
-// Marks the roots of the LUTs that the first `number` outputs need, where `leaves` and `sizes` hold the cut chosen for each gate, and
-// answers how many LUTs there are. One pass back along the order: when a gate's turn comes, all that could need it had theirs.
+// Marks the roots of the LUTs that the outputs need, where `cuts` holds the cut chosen for each gate, and answers how many LUTs there are.
+// One pass back along the order: when a gate's turn comes, all that could need it had theirs.
 pub fn cover(
-    inputs: usize,
-    nodes: usize,
+    numbers: Numbers,
     order: &[u16],
-    leaves: &[u16],
-    sizes: &[u8],
+    cuts: &[u16],
     outputs: &[u16],
-    number: usize,
-    root: &mut [u8],
+    luts: &mut [u8],
 ) -> usize
-    requires { ⌜ CoverAsked inputs nodes (now order) (now leaves) (now sizes) (now outputs) number (length (now root)) ⌝ }
-    ensures { λ r. ⌜ CoverMade inputs nodes (now (leaves .entry)) (now (sizes .entry)) (take number (now (outputs .entry))) (now (root .entry)) r (now (root .exit)) ⌝ }
+    requires { ⌜ CoverAsked (numbers .inputs) (numbers .nodes) (now order) (now cuts) (now outputs) (numbers .roots) (length (now luts)) ⌝ }
+    ensures { λ r. ⌜ CoverMade (numbers .inputs) (numbers .nodes) (now (cuts .entry)) (take (numbers .roots) (now (outputs .entry)))
+        (now (luts .entry)) r (now (luts .exit)) ⌝ }
 {
-    clear(root, nodes);
-    mark_gates(outputs, 0, number, inputs, root);
+    let inputs = numbers.inputs;
+    let nodes = numbers.nodes;
+    let number = numbers.roots;
+    clear(luts, nodes);
+    mark_gates(outputs, 0, number, inputs, luts);
     let mut i = nodes - inputs;
     while 0 < i {
         i -= 1;
-        mark_leaves(leaves, sizes, Node { id: order[i] }, inputs, root);
+        mark_leaves(cuts, Node { id: order[i] }, inputs, luts);
     }
-    count_marks(root, nodes)
+    count_marks(luts, nodes)
 }
 
 fn larger(a: u16, b: u16) -> u16

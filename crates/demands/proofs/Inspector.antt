@@ -4,8 +4,8 @@ use native.Mathlib.Omega.{arith}
 use mathlib.Core.Path.{_≡_, refl, sym, ap, _∙_, subst}
 use mathlib.Core.List.{List}
 use Rattle.theory.specs.Cases.{LowestLoop}
-use Rattle.drawing.specs.Fields.{headK, headI}
-use Rattle.drawing.specs.Table.{netOf, tablesOf}
+use Rattle.drawing.specs.Fields.{headK}
+use Rattle.drawing.specs.Table.{tablesOf}
 use Rattle.drawing.specs.Reading.{found, tableOf, nodesOf}
 use Rattle.sheet.specs.declared.Fault.{Fault}
 use Rattle.sheet.specs.declared.Fault.the-variants as fault
@@ -14,7 +14,7 @@ use Rattle.sheet.specs.Rules.{Rule, Found, ruleNumber, rulePlace}
 use Rattle.keeping.specs.Right.{Roots, Right}
 use Rattle.keeping.proofs.Kept.{kept-is-right}
 use Rattle.inspecting.specs.declared.Inspection.{Inspection}
-use Rattle.inspecting.specs.declared.Inspection.the-variants.{Accepted, Refused, Shape}
+use Rattle.inspecting.specs.declared.Inspection.the-variants.{Refused, Shape}
 use Rattle.inspecting.specs.Inspecting.{Drawable, Inspects, KeepsAll, dueIn, sheetIn, replyOf, number, place}
 use Rattle.inspecting.proofs.Replies.{one-reply, keeps-accepted, accepted-exactly}
 use Rattle.demands.specs.Demands.{drawn, ReadsWhole, SomeLoop, IsTaken, InspectorReplies, Demand-1-inspector, Demand-3-right, Demand-3-accepts}

@@ -1,17 +1,16 @@
 -- Demand 1 and demand 2 for the mapper, and that its own sheet keeps the rules.
-use Prim.Native.Nat.{ℕ, suc, _+_, _-_, _≤_, _<_}
+use Prim.Native.Nat.{ℕ, _≤_, _<_}
 use native.Mathlib.Omega.{arith}
 use mathlib.Core.Path.{_≡_, refl, sym, ap, _∙_, subst}
-use mathlib.Core.Logic.{_⊎_, _↔_}
 use mathlib.Core.Bool.{Bool, true, false, true≢false}
 use mathlib.Core.List.{List, _++_, List·Memᴰ}
 use lib.ListN.{length, take, drop}
 use lib.Seq.{take-at, drop-at}
+use Rattle.storage.specs.declared.Node.{Node}
 use Rattle.theory.specs.Net.{Net, Gate}
 use Rattle.theory.specs.Walk.{Loop}
 use Rattle.theory.specs.Cover.{Label}
 use Rattle.theory.specs.Cases.{LowestLoop}
-use Rattle.drawing.specs.declared.Node.{Node}
 use Rattle.drawing.specs.declared.Refusal.{Refusal}
 use Rattle.drawing.specs.declared.Refusal.the-variants as refusal
 use Rattle.drawing.specs.declared.Verdict.{Verdict}
@@ -19,7 +18,7 @@ use Rattle.drawing.specs.declared.Verdict.the-variants.{Sound, Refused as Refus
 use Rattle.drawing.specs.Refusals as table
 use Rattle.drawing.specs.Fields.{headK, headI}
 use Rattle.drawing.specs.Table.{netOf, tablesOf}
-use Rattle.drawing.specs.Reading.{found, tableOf, nodesOf, headOf}
+use Rattle.drawing.specs.Reading.{found, tableOf, numbersOf}
 use Rattle.walking.specs.declared.Ordering.{Ordering}
 use Rattle.walking.specs.declared.Ordering.the-variants as order
 use Rattle.walking.specs.Promises.{LoopRuling}
@@ -36,7 +35,6 @@ use Rattle.sheet.specs.Rules.{Rule, Keeps, rulesOf, labelsOf}
 use Rattle.sheet.proofs.Shapes.{dueFor, narrow-fits}
 use Rattle.sheet.proofs.RoundTrip.{reads-back}
 use Rattle.keeping.specs.Right.{Right}
-use Rattle.keeping.specs.Mappers.{MappersSheet}
 use Rattle.keeping.specs.Same.{SameButEvidence}
 use Rattle.keeping.proofs.Mappers.{mappers-sheet-keeps}
 use Rattle.keeping.proofs.Kept.{kept-is-right}
@@ -45,8 +43,8 @@ use Rattle.keeping.proofs.One.{mappers-sheet-is-one}
 use Rattle.mapping.specs.declared.Reply.{Reply}
 use Rattle.mapping.specs.declared.Reply.the-variants.{Mapped, Refused, LoopAt, Room}
 use Rattle.mapping.specs.Maps.{Maps, MapsTo, number, place}
-use Rattle.inspecting.specs.Inspecting.{Drawable, KeepsAll, dueIn, sheetIn, KeepsIn, rulesIn}
-use Rattle.demands.specs.Demands.{drawn, ReadsWhole, SomeLoop, SameReply, MapperReplies, SheetWritten, Demand-1, Demand-2, Demand-3-mapper}
+use Rattle.inspecting.specs.Inspecting.{KeepsAll, dueIn, sheetIn}
+use Rattle.demands.specs.Demands.{drawn, ReadsWhole, SameReply, MapperReplies, SheetWritten, Demand-1, Demand-2, Demand-3-mapper}
 use Rattle.keeping.proofs.Tables.{no-loops, bounded, outputs-are-nodes, nodes-few, nodes-are, k-few, drawing, table-ranked, rank-most}
 
 -- What is said of a table, in terms of its reading and its loops.
@@ -54,10 +52,10 @@ use Rattle.keeping.proofs.Tables.{no-loops, bounded, outputs-are-nodes, nodes-f
 abbrev Told : List ℕ → Taking → Type 0
 Told s (taking.Refused x) = found s .verdict ≡ RefusedFor x
 Told s (taking.LoopAt g) = ReadsWhole s × LoopRuling (drawn s) (order.LoopAt g)
-Told s (taking.Taken h n) = ReadsWhole s × LoopRuling (drawn s) order.Whole
-Told s taking.Lent = ⊥
+Told s (taking.Taken n) = ReadsWhole s × LoopRuling (drawn s) order.Whole
+Told s taking.TooShort = ⊥
 
-by-order : (s : List ℕ) (o : Ordering) → ReadsWhole s → LoopRuling (drawn s) o → Told s (afterOrder (headOf s) (length (found s .outputs)) o)
+by-order : (s : List ℕ) (o : Ordering) → ReadsWhole s → LoopRuling (drawn s) o → Told s (afterOrder (numbersOf s) o)
 by-order s order.Whole whole free = (whole, free)
 by-order s (order.LoopAt g) whole loops = (whole, loops)
 
@@ -171,7 +169,8 @@ module _ (s : List ℕ) (whole : ReadsWhole s) (free : LoopRuling (drawn s) orde
         sound = ap (λ (x : Reading). x .ruling) read;
         each =
             subst (λ (x : Sheet). (rule : Rule) → List·Memᴰ rule (rulesOf (drawn s) x) → Keeps (drawn s) (tablesOf (tableOf s)) (headK s) (found s .outputs) x rule) (sym same)
-            (mappers-sheet-keeps (drawn s) (tablesOf (tableOf s)) (headK s) (found s .outputs) sheet (bounded s whole) (table-ranked s whole free) (outputs-are-nodes s whole) mapper (mapper .evidence));
+            (mappers-sheet-keeps (drawn s) (tablesOf (tableOf s)) (headK s) (found s .outputs) sheet (bounded s whole) (table-ranked s whole free)
+            (outputs-are-nodes s whole) mapper (mapper .evidence));
       }
 
   pub sheet-one : (a b : Sheet) → MapsTo s a → MapsTo s b → SameButEvidence (headI s) a b

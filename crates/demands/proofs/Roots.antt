@@ -1,15 +1,14 @@
 -- In a sheet of sound shape the roots of the LUTs are gates and rise, as rule 24 asks.
 use Prim.Native.Nat.{ℕ, zero, suc, _+_, _-_, _≤_, _<_}
 use native.Mathlib.Omega.{arith}
-use mathlib.Core.Path.{_≡_, sym, ap, subst}
-use mathlib.Core.Bool.{_||_}
-use mathlib.Core.List.{List, [], _∷_}
+use mathlib.Core.Path.{_≡_, sym, subst}
+use mathlib.Core.List.{List, _∷_}
 use borrow.Author.Tests.{ltb-false, leb-false}
 use lib.Dec.{ltb, leb}
 use Rattle.drawing.proofs.SoundFields.{neither}
 use Rattle.sheet.specs.declared.Ruling.the-variants.{Sound}
-use Rattle.sheet.specs.Sheet.{Lut, Sheet}
-use Rattle.sheet.specs.Shape.{Due, endAt, lutAt, lutRuling, leavesRange, lutsFrom, reading}
+use Rattle.sheet.specs.Sheet.{Sheet}
+use Rattle.sheet.specs.Shape.{Due, endAt, lutAt, lutRuling, lutsFrom, reading}
 use Rattle.shaping.proofs.FieldRuns.{lut-kept}
 use Rattle.shaping.proofs.Found.{whole, lut-ruled, luts-behind, luts-read}
 use Rattle.keeping.specs.Right.{Roots}

@@ -2,9 +2,8 @@
 -- given at all, and the run ends, is the kit's part: both functions are proved to end with a reply that their promise allows, for all bytes.
 use Prim.Native.Nat.{ℕ, _≤_, _<_}
 use mathlib.Core.Path.{_≡_}
-use mathlib.Core.Bool.{Bool}
 use mathlib.Core.Logic.{_↔_}
-use mathlib.Core.List.{List, _++_, List·Memᴰ}
+use mathlib.Core.List.{List}
 use lib.ListN.{length, take, drop}
 use Rattle.theory.specs.Net.{Net, Gate}
 use Rattle.theory.specs.Walk.{Loop}
@@ -13,11 +12,12 @@ use Rattle.theory.specs.Cases.{LowestLoop}
 use Rattle.drawing.specs.declared.Refusal.{Refusal}
 use Rattle.drawing.specs.declared.Verdict.the-variants.{Sound, Refused as RefusedFor}
 use Rattle.drawing.specs.Refusals as table
-use Rattle.drawing.specs.Fields.{headK, headI}
+use Rattle.drawing.specs.Fields.{headK}
 use Rattle.drawing.specs.Table.{netOf, tablesOf}
-use Rattle.drawing.specs.Reading.{found, tableOf}
+use Rattle.drawing.specs.Reading.{found, tableOf, sourcesOf, rootsOf}
 use Rattle.sheet.specs.declared.Fault.{Fault}
 use Rattle.sheet.specs.declared.Ruling.the-variants as ruling
+use Rattle.sheet.specs.Limits.{sheetRoom, longestSheet}
 use Rattle.sheet.specs.Sheet.{Sheet}
 use Rattle.sheet.specs.Encoding.{narrow, encode}
 use Rattle.sheet.specs.Shape as shape
@@ -26,7 +26,7 @@ use Rattle.sheet.specs.Rules.{Rule, Found, FirstBroken, labelsOf, ruleNumber, r
 use Rattle.keeping.specs.Right.{Right}
 use Rattle.keeping.specs.Same.{SameButEvidence}
 use Rattle.mapping.specs.declared.Reply.{Reply}
-use Rattle.mapping.specs.Maps.{Maps, MapsTo, number, place}
+use Rattle.mapping.specs.Maps.{Maps, number, place}
 use Rattle.inspecting.specs.declared.Inspection.{Inspection}
 use Rattle.inspecting.specs.declared.Inspection.the-variants.{Accepted}
 use Rattle.inspecting.specs.Inspecting.{Inspects, KeepsAll, KeepsIn, rulesIn, dueIn, sheetIn}
@@ -55,7 +55,7 @@ IsTaken s = ReadsWhole s × (SomeLoop s → ⊥)
 -- but for its evidence.
 pub data SameReply (s : List ℕ) (r q : Reply) (after after′ : List ℕ) : Type 0 where
   refusal : r ≡ q → after ≡ after′ → SameReply s r q after after′
-  sheets : (a b : Sheet) → number r ≡ 0 → number q ≡ 0 → SameButEvidence (headI s) a b → take (place r) after ≡ encode narrow a →
+  sheets : (a b : Sheet) → number r ≡ 0 → number q ≡ 0 → SameButEvidence (sourcesOf s) a b → take (place r) after ≡ encode narrow a →
       take (place q) after′ ≡ encode narrow b → SameReply s r q after after′
 
 pub record MapperReplies (s before : List ℕ) (r : Reply) (after : List ℕ) : Type 0 where
@@ -63,8 +63,8 @@ pub record MapperReplies (s before : List ℕ) (r : Reply) (after : List ℕ) : 
   pub loop : (number r ≡ 7) ↔ (ReadsWhole s × SomeLoop s)
   pub lowest : number r ≡ 7 → LowestLoop (drawn s) (place r)
   pub faulty : (x : Refusal) → found s .verdict ≡ RefusedFor x → (number r ≡ table.number x) × (place r ≡ table.place x)
-  pub room : (number r ≡ 8) ↔ (IsTaken s × (length before < 49152))
-  pub mapped : (number r ≡ 0) ↔ (IsTaken s × (49152 ≤ length before))
+  pub room : (number r ≡ 8) ↔ (IsTaken s × (length before < sheetRoom))
+  pub mapped : (number r ≡ 0) ↔ (IsTaken s × (sheetRoom ≤ length before))
   pub untouched : (number r ≡ 0 → ⊥) → after ≡ before
   pub rest : number r ≡ 0 → drop (place r) after ≡ drop (place r) before
 
@@ -93,8 +93,8 @@ pub record SheetWritten (s after : List ℕ) (size : ℕ) : Type 0 where
   pub sheet : Sheet
   pub bytes : take size after ≡ encode narrow sheet
   pub read : reading (dueIn s) (take size after) ≡ record { sheet = sheet; ruling = ruling.Sound }
-  pub labels : (t : ℕ) → Gate (drawn s) t → (outputs : List ℕ) → Label (drawn s) (headK s) outputs t (labelsOf (headI s) (sheet .lines) t)
-  pub right : Right (drawn s) (tablesOf (tableOf s)) (headK s) (found s .outputs) sheet
+  pub labels : (t : ℕ) → Gate (drawn s) t → (outputs : List ℕ) → Label (drawn s) (headK s) outputs t (labelsOf (sourcesOf s) (sheet .lines) t)
+  pub right : Right (drawn s) (tablesOf (tableOf s)) (headK s) (rootsOf s) sheet
 
 abbrev pub Demand-2 : Type 0
 Demand-2 = (s before : List ℕ) (r : Reply) (after : List ℕ) → Maps s before r after → number r ≡ 0 → SheetWritten s after (place r)
@@ -103,7 +103,7 @@ Demand-2 = (s before : List ℕ) (r : Reply) (after : List ℕ) → Maps s befor
 -- do, and no K-LUT cover of that drawing has a smaller depth."
 abbrev pub Demand-3-right : Type 0
 Demand-3-right = (s t : List ℕ) (depth : ℕ) → Inspects s t (Accepted (record { depth = depth })) →
-    Right (drawn s) (tablesOf (tableOf s)) (headK s) (found s .outputs) (sheetIn s t) × (depth ≡ sheetIn s t .depth)
+    Right (drawn s) (tablesOf (tableOf s)) (headK s) (rootsOf s) (sheetIn s t) × (depth ≡ sheetIn s t .depth)
 
 -- "It accepts every sheet that keeps the printed rules"
 abbrev pub Demand-3-accepts : Type 0
@@ -115,4 +115,4 @@ Demand-3-mapper = (s before : List ℕ) (r : Reply) (after : List ℕ) → Maps 
 
 -- "no acceptable sheet is longer than 43,554", whatever bytes the inspector is given.
 abbrev pub Demand-3-length : Type 0
-Demand-3-length = (s t : List ℕ) (depth : ℕ) → Inspects s t (Accepted (record { depth = depth })) → length t ≤ 43554
+Demand-3-length = (s t : List ℕ) (depth : ℕ) → Inspects s t (Accepted (record { depth = depth })) → length t ≤ longestSheet

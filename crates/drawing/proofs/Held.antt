@@ -1,128 +1,173 @@
 -- After a whole reading the arrays hold the net and the tables of the table that was read, and that net is K-bounded.
--- Each store of a line lands in its own places: six a node for the fanins, one for their number, one for the table.
+-- Each store of a line lands in its own places, seven a node, and leaves those of the others; an input's line is the empty list.
 use Prim.Native.Nat.{ℕ, zero, suc, _+_, _*_, _-_, _≤_, _<_}
 use mathlib.Core.Path.{_≡_, refl, ap, sym, subst, fun-ext, _∙_}
 use mathlib.Core.Bool.{Bool, true, false, cond}
 use mathlib.Core.List.{List, [], _∷_, map}
-use mathlib.Core.Logic.{_⊎_, ⊎-elim}
-use native.Mathlib.Nat.{add-zero, le-of-suc-le-suc, not-suc-le-zero}
+use native.Mathlib.Nat.{le-of-suc-le-suc, not-suc-le-zero}
+use native.Mathlib.Decide.{decLt}
 use native.Mathlib.Omega.{arith}
 use borrow.Author.Tests.{lt-ltb, le-ltb, ltb-true, ltb-false}
 use lib.Dec.{ltb}
-use lib.ListN.{length, getD, set, take, drop, replicate, length-set, length-take, length-drop, length-replicate, getD-replicate, length-map, List·getD-map, List·getD-eq-default}
-use lib.Seq.{sets, length-sets, getD-set-same, getD-set-other, getD-take, getD-drop, ext-getD, sets-eq, take-at}
+use lib.ListN.{length, getD, take, length-map, List·getD-map, List·getD-eq-default}
+use lib.Seq.{sets, length-sets}
 use Rattle.theory.specs.Net.{Gate}
 use Rattle.theory.specs.Sound.{Bounded}
+use Rattle.storage.specs.Lists.{sizeAt, listAt, ListsIn}
+use Rattle.storage.specs.Drawings.{netIn, tablesIn}
+use Rattle.storage.proofs.Stores.{stored-at, stored-run}
+use Rattle.storage.proofs.InLists.{put-size, put-list, put-other-size, put-other}
 use Rattle.drawing.specs.declared.Verdict.{Verdict}
 use Rattle.drawing.specs.declared.Verdict.the-variants.{Sound, Refused}
-use Rattle.drawing.specs.Table.{GateLine, Table, noGate, lineOf, netOf, tablesOf, netIn, tablesIn}
+use Rattle.drawing.specs.Limits.{mostK, mostNodes}
+use Rattle.drawing.specs.Table.{GateLine, Table, noGate, lineOf, netOf, tablesOf}
 use Rattle.drawing.specs.Fields.{headK, headI, headVerdict}
-use Rattle.drawing.specs.Reading.{Lines, Arrays, found, afterHead, nodesOf, tableOf, enough, withInputs, putGate, putGates, filled}
+use Rattle.drawing.specs.Reading.{Lines, Arrays, found, afterHead, nodesOf, tableOf, enough, noFanins, withInputs, putGate, putGates, filled}
 use Rattle.drawing.proofs.Verdicts.{not-sound}
 use Rattle.drawing.proofs.SoundTables.{SoundLine, SoundLines, table-sound}
+use Rattle.drawing.proofs.Filled.{no-fanins-length}
 use Rattle.drawing.proofs.Wholes.{long-enough}
 
--- ---- a run of stores, entry by entry
+-- ---- a node's list in an array: how many ids, and which
 
-stored-beside : (l : List ℕ) (i : ℕ) (vs : List ℕ) (at : ℕ) → (at < i) ⊎ (i + length vs ≤ at) → getD (sets l i vs) at 0 ≡ getD l at 0
-stored-beside l i [] at h = refl
-stored-beside l i (v ∷ vs) at h =
-    stored-beside (set l i v) (suc i) vs at
-    (⊎-elim (λ (b : at < i). _⊎_.inl (omega arith)) (λ (b : i + suc (length vs) ≤ at). _⊎_.inr (omega arith)) h)
-    ∙ getD-set-other l i at v 0 (⊎-elim (λ (b : at < i). omega arith) (λ (b : i + suc (length vs) ≤ at). omega arith) h)
+record Listed (lists : List ℕ) (v : ℕ) (ids : List ℕ) : Type 0 where
+  pub size : sizeAt lists v ≡ length ids
+  pub list : listAt lists v ≡ ids
 
-stored-at : (l : List ℕ) (i : ℕ) (vs : List ℕ) (j : ℕ) → j < length vs → i + length vs ≤ length l → getD (sets l i vs) (i + j) 0 ≡ getD vs j 0
-stored-at l i [] j h fits = absurd (not-suc-le-zero h)
-stored-at l i (v ∷ vs) zero h fits =
-    ap (λ (p : ℕ). getD (sets (set l i v) (suc i) vs) p 0) (add-zero i)
-    ∙ stored-beside (set l i v) (suc i) vs i (_⊎_.inl (omega arith))
-    ∙ getD-set-same l i v 0 (omega arith)
-stored-at l i (v ∷ vs) (suc j) h fits =
-    ap (λ (p : ℕ). getD (sets (set l i v) (suc i) vs) p 0) (omega arith)
-    ∙ stored-at (set l i v) (suc i) vs j (le-of-suc-le-suc h) (simp length-set (omega arith))
+module _ (lists : List ℕ) (t : ℕ) (ids : List ℕ) (long : 7 * t + 7 ≤ length lists) (few : length ids ≤ mostK) where
+  listed-here : Listed (sets lists (7 * t) (length ids ∷ ids)) t ids
+  listed-here = record { size = put-size lists t ids long few; list = put-list lists t ids long few }
 
-stored-front : (l vs : List ℕ) → length vs ≤ length l → take (length vs) (sets l 0 vs) ≡ vs
-stored-front l vs fits = ap (take (length vs)) (sets-eq vs l 0 (omega arith)) ∙ take-at vs (drop (0 + length vs) l) (length vs) refl
+  -- a list stored elsewhere
+  listed-beside : {v : ℕ} {js : List ℕ} → (v ≡ t → ⊥) → 7 * v + 7 ≤ length lists → length js ≤ mostK → Listed lists v js →
+      Listed (sets lists (7 * t) (length ids ∷ ids)) v js
+  listed-beside {v} {js} apart room small is =
+      record {
+        size = put-other-size lists t ids long few v apart ∙ is .size;
+        list = put-other lists t ids long few v apart room (omega (arith, is .size)) ∙ is .list;
+      }
+
+-- the inputs' lists are empty
+inputs-listed : (fanins : List ℕ) (inputs : ℕ) → 7 * inputs ≤ length fanins → (v : ℕ) → v < inputs → Listed (noFanins fanins inputs) v []
+unfolding noFanins
+inputs-listed fanins zero long v low = absurd (not-suc-le-zero low)
+inputs-listed fanins (suc u) long v low = by (decLt v u) (inputs-listed fanins u (omega arith) v)
+  where
+    size : length (noFanins fanins u) ≡ length fanins
+    size = no-fanins-length fanins u
+
+    by : Dec (v < u) → (v < u → Listed (noFanins fanins u) v []) → Listed (noFanins fanins (suc u)) v []
+    by (yes below) before =
+        listed-beside (noFanins fanins u) u [] (omega (arith, size)) (omega arith) (omega arith) (omega (arith, size)) (omega arith) (before below)
+    by (no above) before =
+        let last : v ≡ u = omega arith in
+        subst (λ (w : ℕ). Listed (noFanins fanins (suc u)) w []) (sym last)
+        (listed-here (noFanins fanins u) u [] (omega (arith, size)) (omega arith))
 
 -- ---- the lines of gates from node v on
-
-sizeOf : GateLine → ℕ
-sizeOf g = length (g .fanins)
-
-count-run : (a : Lines) (v : ℕ) (gs : List GateLine) → putGates a v gs .count ≡ sets (a .count) v (map sizeOf gs)
-unfolding putGates sizeOf
-count-run a v [] = refl
-count-run a v (g ∷ gs) = count-run (putGate a v g) (suc v) gs
 
 rows-run : (a : Lines) (v : ℕ) (gs : List GateLine) → putGates a v gs .rows ≡ sets (a .rows) v (map (λ (g : GateLine). g .table) gs)
 unfolding putGates
 rows-run a v [] = refl
 rows-run a v (g ∷ gs) = rows-run (putGate a v g) (suc v) gs
 
-fan-before : (a : Lines) (v : ℕ) (gs : List GateLine) (at : ℕ) → at < 6 * v → getD (putGates a v gs .fan) at 0 ≡ getD (a .fan) at 0
+run-length : (a : Lines) (v : ℕ) (gs : List GateLine) → length (putGates a v gs .fanins) ≡ length (a .fanins)
 unfolding putGates
-fan-before a v [] at h = refl
-fan-before a v (g ∷ gs) at h =
-    fan-before (putGate a v g) (suc v) gs at (omega arith) ∙ stored-beside (a .fan) (6 * v) (g .fanins) at (_⊎_.inl h)
+run-length a v [] = refl
+run-length a v (g ∷ gs) = run-length (putGate a v g) (suc v) gs ∙ length-sets (a .fanins) (7 * v) (length (g .fanins) ∷ g .fanins)
 
-fan-at :
-    (k nodes : ℕ) → k ≤ 6 → (a : Lines) (v : ℕ) (gs : List GateLine) → SoundLines k nodes gs → 6 * (v + length gs) ≤ length (a .fan) →
-    (i j : ℕ) → i < length gs → j < length (getD gs i noGate .fanins) →
-    getD (putGates a v gs .fan) (6 * (v + i) + j) 0 ≡ getD (getD gs i noGate .fanins) j 0
-unfolding putGates
-fan-at k nodes six a v [] sound fits i j hi hj = absurd (not-suc-le-zero hi)
-fan-at k nodes six a v (g ∷ gs) (SoundLines.more line sound) fits zero j hi hj =
-    let few : length (g .fanins) ≤ 6 = omega (arith, line .few) in
-    ap (λ (p : ℕ). getD (putGates (putGate a v g) (suc v) gs .fan) p 0) (omega arith)
-    ∙ fan-before (putGate a v g) (suc v) gs (6 * v + j) (omega arith)
-    ∙ stored-at (a .fan) (6 * v) (g .fanins) j hj (omega arith)
-fan-at k nodes six a v (g ∷ gs) (SoundLines.more line sound) fits (suc i) j hi hj =
-    let room : 6 * (suc v + length gs) ≤ length (sets (a .fan) (6 * v) (g .fanins)) = rw length-sets (omega arith) in
-    ap (λ (p : ℕ). getD (putGates (putGate a v g) (suc v) gs .fan) p 0) (omega arith)
-    ∙ fan-at k nodes six (putGate a v g) (suc v) gs sound room i j (le-of-suc-le-suc hi) hj
+module _ {k nodes : ℕ} (six : k ≤ mostK) where
+  -- the lists of nodes before them are as they were
+  run-before : (a : Lines) (v : ℕ) (gs : List GateLine) → SoundLines k nodes gs → 7 * (v + length gs) ≤ length (a .fanins) →
+      {w : ℕ} {js : List ℕ} → w < v → length js ≤ mostK → Listed (a .fanins) w js → Listed (putGates a v gs .fanins) w js
+  unfolding putGates
+  run-before a v [] sound long low small is = is
+  run-before a v (g ∷ gs) (SoundLines.more line sound) long {w} {js} low small is =
+      let few : length (g .fanins) ≤ mostK = omega (arith, line .few) in
+      let room : 7 * (suc v + length gs) ≤ length (sets (a .fanins) (7 * v) (length (g .fanins) ∷ g .fanins)) = rw length-sets (omega arith) in
+      run-before (putGate a v g) (suc v) gs sound room (omega arith) small
+      (listed-beside (a .fanins) v (g .fanins) (omega arith) few (omega arith) (omega arith) small is)
 
-fan-length : (a : Lines) (v : ℕ) (gs : List GateLine) → length (putGates a v gs .fan) ≡ length (a .fan)
-unfolding putGates
-fan-length a v [] = refl
-fan-length a v (g ∷ gs) = fan-length (putGate a v g) (suc v) gs ∙ length-sets (a .fan) (6 * v) (g .fanins)
+  run-at : (a : Lines) (v : ℕ) (gs : List GateLine) → SoundLines k nodes gs → 7 * (v + length gs) ≤ length (a .fanins) →
+      (i : ℕ) → i < length gs → Listed (putGates a v gs .fanins) (v + i) (getD gs i noGate .fanins)
+  unfolding putGates
+  run-at a v [] sound long i low = absurd (not-suc-le-zero low)
+  run-at a v (g ∷ gs) (SoundLines.more line sound) long zero low =
+      let few : length (g .fanins) ≤ mostK = omega (arith, line .few) in
+      let room : 7 * (suc v + length gs) ≤ length (sets (a .fanins) (7 * v) (length (g .fanins) ∷ g .fanins)) = rw length-sets (omega arith) in
+      let here : v + 0 ≡ v = omega arith in
+      rw here
+      (run-before (putGate a v g) (suc v) gs sound room (omega arith) few (listed-here (a .fanins) v (g .fanins) (omega arith) few))
+  run-at a v (g ∷ gs) (SoundLines.more line sound) long (suc i) low =
+      let room : 7 * (suc v + length gs) ≤ length (sets (a .fanins) (7 * v) (length (g .fanins) ∷ g .fanins)) = rw length-sets (omega arith) in
+      let there : v + suc i ≡ suc v + i = omega arith in
+      rw there (run-at (putGate a v g) (suc v) gs sound room i (le-of-suc-le-suc low))
 
 line-of : {k nodes : ℕ} (gs : List GateLine) → SoundLines k nodes gs → (i : ℕ) → i < length gs → SoundLine k nodes (getD gs i noGate)
 line-of [] sound i h = absurd (not-suc-le-zero h)
 line-of (g ∷ gs) (SoundLines.more line sound) zero h = line
 line-of (g ∷ gs) (SoundLines.more line sound) (suc i) h = line-of gs sound i (le-of-suc-le-suc h)
 
-module _ (a : Lines) (k inputs : ℕ) (gs : List GateLine) (sound : SoundLines k (inputs + length gs) gs) (six : k ≤ 6)
-    (fan-long : 6 * (inputs + length gs) ≤ length (a .fan)) (count-long : inputs + length gs ≤ length (a .count))
-    (rows-long : inputs + length gs ≤ length (a .rows)) where
+module _ (a : Lines) (k inputs : ℕ) (gs : List GateLine) (sound : SoundLines k (inputs + length gs) gs) (six : k ≤ mostK)
+    (fanins-long : 7 * (inputs + length gs) ≤ length (a .fanins)) (rows-long : inputs + length gs ≤ length (a .rows)) (outputs : List ℕ) where
   after : Lines
   after = putGates (withInputs a inputs) inputs gs
 
-  input-count : (v : ℕ) → v < inputs → getD (after .count) v 0 ≡ 0
-  unfolding after
-  input-count v h =
-      ap (λ (c : List ℕ). getD c v 0) (count-run (withInputs a inputs) inputs gs)
-      ∙ stored-beside (sets (a .count) 0 (replicate inputs 0)) inputs (map sizeOf gs) v (_⊎_.inl h)
-      ∙ ap (λ (p : ℕ). getD (sets (a .count) 0 (replicate inputs 0)) p 0) (omega arith)
-      ∙ stored-at (a .count) 0 (replicate inputs 0) v (rw length-replicate h) (rw length-replicate (omega arith))
-      ∙ getD-replicate inputs v 0 0 h
+  table : Table
+  table = record { k = k; inputs = inputs; gates = gs; outputs = outputs }
 
-  gate-count : (i : ℕ) → i < length gs → getD (after .count) (inputs + i) 0 ≡ length (getD gs i noGate .fanins)
-  unfolding after sizeOf
-  gate-count i h =
-      ap (λ (c : List ℕ). getD c (inputs + i) 0) (count-run (withInputs a inputs) inputs gs)
-      ∙ stored-at (sets (a .count) 0 (replicate inputs 0)) inputs (map sizeOf gs) i (rw length-map h) (rw (length-map, length-sets) count-long)
-      ∙ List·getD-map sizeOf gs i noGate
+  begun-long : 7 * (inputs + length gs) ≤ length (noFanins (a .fanins) inputs)
+  begun-long = omega (arith, no-fanins-length (a .fanins) inputs)
 
-  counts-small : (v : ℕ) → v < inputs + length gs → getD (after .count) v 0 ≤ 6
-  counts-small v h = by (ltb v inputs) refl
+  line-listed : (v : ℕ) → v < inputs + length gs → Listed (after .fanins) v (lineOf table v .fanins)
+  unfolding after table
+  line-listed v node = by (ltb v inputs) refl
     where
-      by : (b : Bool) → ltb v inputs ≡ b → getD (after .count) v 0 ≤ 6
-      by true e = omega (arith, input-count v (ltb-true v inputs e))
+      by : (b : Bool) → ltb v inputs ≡ b → Listed (after .fanins) v (cond b noGate (getD gs (v - inputs) noGate) .fanins)
+      by true e =
+          let low : v < inputs = ltb-true v inputs e in
+          run-before six (withInputs a inputs) inputs gs sound begun-long low (omega arith) (inputs-listed (a .fanins) inputs (omega arith) v low)
       by false e =
           let high : inputs ≤ v = ltb-false v inputs e in
-          let inside : v - inputs < length gs = omega arith in
-          let same : inputs + (v - inputs) ≡ v = omega arith in
-          omega (arith, line-of gs sound (v - inputs) inside .few, gate-count (v - inputs) inside, ap (λ (w : ℕ). getD (after .count) w 0) same)
+          let back : inputs + (v - inputs) ≡ v = omega arith in
+          subst (λ (w : ℕ). Listed (after .fanins) w (getD gs (v - inputs) noGate .fanins)) back
+          (run-at six (withInputs a inputs) inputs gs sound begun-long (v - inputs) (omega arith))
+
+  line-few : (v : ℕ) → v < inputs + length gs → length (lineOf table v .fanins) ≤ mostK
+  unfolding table
+  line-few v node = by (ltb v inputs) refl
+    where
+      by : (b : Bool) → ltb v inputs ≡ b → length (cond b noGate (getD gs (v - inputs) noGate) .fanins) ≤ mostK
+      by true e = omega arith
+      by false e =
+          let high : inputs ≤ v = ltb-false v inputs e in
+          omega (arith, line-of gs sound (v - inputs) (omega arith) .few)
+
+  lists-held : ListsIn (inputs + length gs) (after .fanins)
+  unfolding after
+  lists-held =
+      record {
+        long = omega (arith, run-length (withInputs a inputs) inputs gs, begun-long);
+        six = λ v node. omega (arith, line-listed v node .size, line-few v node);
+      }
+
+  -- by whether v is a node
+  fanins-held : (v : ℕ) → netIn inputs (inputs + length gs) (after .fanins) .fanins v ≡ netOf table .fanins v
+  unfolding netIn netOf table
+  fanins-held v = by (ltb v (inputs + length gs)) refl
+    where
+      by : (c : Bool) → ltb v (inputs + length gs) ≡ c → cond c (listAt (after .fanins) v) [] ≡ lineOf table v .fanins
+      by true f = line-listed v (ltb-true v (inputs + length gs) f) .list
+      by false f =
+          let above : inputs + length gs ≤ v = ltb-false v (inputs + length gs) f in
+          let none : getD gs (v - inputs) noGate ≡ noGate = List·getD-eq-default gs noGate (omega arith) in
+          sym
+          (ap (λ (b : Bool). cond b noGate (getD gs (v - inputs) noGate) .fanins) (le-ltb v inputs (omega arith))
+          ∙ ap (λ (g : GateLine). g .fanins) none)
+
+  net-held : netIn inputs (inputs + length gs) (after .fanins) ≡ netOf table
+  unfolding netIn netOf table
+  net-held = λ i. record { inputs = inputs; nodes = inputs + length gs; fanins = fun-ext fanins-held i }
 
   gate-rows : (i : ℕ) → i < length gs → getD (after .rows) (inputs + i) 0 ≡ getD gs i noGate .table
   unfolding after
@@ -131,73 +176,31 @@ module _ (a : Lines) (k inputs : ℕ) (gs : List GateLine) (sound : SoundLines k
       ∙ stored-at (a .rows) inputs (map (λ (g : GateLine). g .table) gs) i (rw length-map h) (rw length-map rows-long)
       ∙ List·getD-map (λ (g : GateLine). g .table) gs i noGate
 
-  gate-fanins : (i : ℕ) → i < length gs → take (length (getD gs i noGate .fanins)) (drop (6 * (inputs + i)) (after .fan)) ≡ getD gs i noGate .fanins
-  unfolding after
-  gate-fanins i h =
-      let few : length (getD gs i noGate .fanins) ≤ 6 = omega (arith, line-of gs sound i h .few) in
-      let long : length (putGates (withInputs a inputs) inputs gs .fan) ≡ length (a .fan) = fan-length (withInputs a inputs) inputs gs in
-      let size : length (take (length (getD gs i noGate .fanins)) (drop (6 * (inputs + i)) (after .fan))) ≡ length (getD gs i noGate .fanins) =
-      simp (length-take, length-drop) (omega arith) in
-      ext-getD 0 (take (length (getD gs i noGate .fanins)) (drop (6 * (inputs + i)) (after .fan))) (getD gs i noGate .fanins) size
-      (λ j hj.
-      getD-take (length (getD gs i noGate .fanins)) (drop (6 * (inputs + i)) (after .fan)) j 0 (omega arith)
-      ∙ getD-drop (6 * (inputs + i)) (after .fan) j 0
-      ∙ fan-at k (inputs + length gs) six (withInputs a inputs) inputs gs sound fan-long i j h (omega arith))
+  tables-held : (v : ℕ) → Gate (netOf table) v → tablesIn (after .rows) v ≡ tablesOf table v
+  unfolding netOf table
+  tables-held v gate =
+      let inside : v - inputs < length gs = omega (arith, gate .above, gate .below) in
+      let same : v ≡ inputs + (v - inputs) = omega (arith, gate .above) in
+      ap (λ (w : ℕ). getD (after .rows) w 0) same
+      ∙ gate-rows (v - inputs) inside
+      ∙ sym (ap (λ (b : Bool). cond b noGate (getD gs (v - inputs) noGate) .table) (le-ltb v inputs (gate .above)))
 
-  module _ (outputs : List ℕ) where
-    table : Table
-    table = record { k = k; inputs = inputs; gates = gs; outputs = outputs }
+  line-at : (v : ℕ) → Gate (netOf table) v → SoundLine k (inputs + length gs) (lineOf table v)
+  unfolding netOf table
+  line-at v gate =
+      subst (λ (b : Bool). SoundLine k (inputs + length gs) (cond b noGate (getD gs (v - inputs) noGate))) (sym (le-ltb v inputs (gate .above)))
+      (line-of gs sound (v - inputs) (omega (arith, gate .above, gate .below)))
 
-    -- by whether v is an input, a gate or no node
-    fanins-held : (v : ℕ) → netIn inputs (inputs + length gs) (after .fan) (after .count) .fanins v ≡ netOf table .fanins v
-    unfolding netIn netOf table
-    fanins-held v = by (ltb v inputs) (ltb v (inputs + length gs)) refl refl
-      where
-        by : (b c : Bool) → ltb v inputs ≡ b → ltb v (inputs + length gs) ≡ c →
-            cond c (take (getD (after .count) v 0) (drop (6 * v) (after .fan))) [] ≡ cond b noGate (getD gs (v - inputs) noGate) .fanins
-        by true true e f = ap (λ (m : ℕ). take m (drop (6 * v) (after .fan))) (input-count v (ltb-true v inputs e))
-        by true false e f = refl
-        by false true e f =
-            let above : inputs ≤ v = ltb-false v inputs e in
-            let below : v < inputs + length gs = ltb-true v (inputs + length gs) f in
-            let inside : v - inputs < length gs = omega arith in
-            let same : v ≡ inputs + (v - inputs) = omega arith in
-            ap (λ (w : ℕ). take (getD (after .count) w 0) (drop (6 * w) (after .fan))) same
-            ∙ ap (λ (m : ℕ). take m (drop (6 * (inputs + (v - inputs))) (after .fan))) (gate-count (v - inputs) inside)
-            ∙ gate-fanins (v - inputs) inside
-        by false false e f =
-            let above : inputs + length gs ≤ v = ltb-false v (inputs + length gs) f in
-            sym (ap (λ (g : GateLine). g .fanins) (List·getD-eq-default gs noGate (omega arith)))
-
-    net-held : netIn inputs (inputs + length gs) (after .fan) (after .count) ≡ netOf table
-    unfolding netIn netOf table
-    net-held = λ i. record { inputs = inputs; nodes = inputs + length gs; fanins = fun-ext fanins-held i }
-
-    tables-held : (v : ℕ) → Gate (netOf table) v → tablesIn (after .rows) v ≡ tablesOf table v
-    unfolding netOf table
-    tables-held v gate =
-        let inside : v - inputs < length gs = omega (arith, gate .above, gate .below) in
-        let same : v ≡ inputs + (v - inputs) = omega (arith, gate .above) in
-        ap (λ (w : ℕ). getD (after .rows) w 0) same
-        ∙ gate-rows (v - inputs) inside
-        ∙ sym (ap (λ (b : Bool). cond b noGate (getD gs (v - inputs) noGate) .table) (le-ltb v inputs (gate .above)))
-
-    line-at : (v : ℕ) → Gate (netOf table) v → SoundLine k (inputs + length gs) (lineOf table v)
-    unfolding netOf table
-    line-at v gate =
-        subst (λ (b : Bool). SoundLine k (inputs + length gs) (cond b noGate (getD gs (v - inputs) noGate))) (sym (le-ltb v inputs (gate .above)))
-        (line-of gs sound (v - inputs) (omega (arith, gate .above, gate .below)))
-
-    net-bounded : Bounded (netOf table) k
-    unfolding netOf table
-    net-bounded =
-        record {
-          span = omega arith;
-          inputs-feed = λ v h. ap (λ (b : Bool). cond b noGate (getD gs (v - inputs) noGate) .fanins) (lt-ltb v inputs h);
-          fed = λ g gate. line-at g gate .some;
-          few = λ g gate. line-at g gate .few;
-          nodes = λ g gate v m. line-at g gate .nodes-only v m;
-        }
+  net-bounded : Bounded (netOf table) k
+  unfolding netOf table
+  net-bounded =
+      record {
+        span = omega arith;
+        inputs-feed = λ v h. ap (λ (b : Bool). cond b noGate (getD gs (v - inputs) noGate) .fanins) (lt-ltb v inputs h);
+        fed = λ g gate. line-at g gate .some;
+        few = λ g gate. line-at g gate .few;
+        nodes = λ g gate v m. line-at g gate .nodes-only v m;
+      }
 
 sound-head-of : (s : List ℕ) → found s .verdict ≡ Sound → headVerdict s ≡ Sound
 unfolding found
@@ -209,11 +212,11 @@ sound-head-of s e = by (headVerdict s) e
 
 -- What the arrays hold after a whole reading: the table's net, its tables and its outputs; other entries of `outputs` are as before.
 pub record Holds (s : List ℕ) (after : Arrays) : Type 0 where
-  pub net : netIn (headI s) (nodesOf s) (after .lines .fan) (after .lines .count) ≡ netOf (tableOf s)
+  pub net : netIn (headI s) (nodesOf s) (after .lines .fanins) ≡ netOf (tableOf s)
   pub tables : (v : ℕ) → Gate (netOf (tableOf s)) v → tablesIn (after .lines .rows) v ≡ tablesOf (tableOf s) v
   pub outputs : take (length (found s .outputs)) (after .outputs) ≡ found s .outputs
   pub bounded : Bounded (netOf (tableOf s)) (headK s)
-  pub six : (v : ℕ) → v < nodesOf s → getD (after .lines .count) v 0 ≤ 6
+  pub lists : ListsIn (nodesOf s) (after .lines .fanins)
 
 pub whole-holds : (a : Arrays) (s : List ℕ) → enough a ≡ true → found s .verdict ≡ Sound → Holds s (filled a s)
 unfolding filled after table
@@ -222,26 +225,24 @@ whole-holds a s long ruled =
     let room = long-enough a long in
     let inputs = headI s in
     let gs = found s .gates in
-    let nodes : inputs + length gs ≡ nodesOf s = ap (λ (g : ℕ). headI s + g) (sound .size) in
-    let lines : SoundLines (headK s) (inputs + length gs) gs = subst (λ (n : ℕ). SoundLines (headK s) n gs) (sym nodes) (sound .lines) in
-    let six = sound .head .k-most in
-    let few : inputs + length gs ≤ 192 = omega (arith, sound .head .nodes-most) in
-    let fan-long : 6 * (inputs + length gs) ≤ length (a .lines .fan) = omega (arith, room .fan) in
-    let count-long : inputs + length gs ≤ length (a .lines .count) = omega (arith, room .count) in
-    let rows-long : inputs + length gs ≤ length (a .lines .rows) = omega (arith, room .rows) in
     let outs = found s .outputs in
-    let is : filled a s ≡ record { lines = putGates (withInputs (a .lines) inputs) inputs gs; outputs = sets (a .outputs) 0 outs } =
-    rw (long, sound-head-of s ruled) in
-    let held : (n : ℕ) → inputs + length gs ≡ n →
-    netIn inputs n (putGates (withInputs (a .lines) inputs) inputs gs .fan) (putGates (withInputs (a .lines) inputs) inputs gs .count)
-    ≡ netOf (tableOf s) =
-    λ n e. subst (λ (m : ℕ). netIn inputs m (putGates (withInputs (a .lines) inputs) inputs gs .fan) (putGates (withInputs (a .lines) inputs) inputs gs .count) ≡ netOf (tableOf s)) e
-    (net-held (a .lines) (headK s) inputs gs lines six fan-long count-long rows-long outs) in
+    let lines = putGates (withInputs (a .lines) inputs) inputs gs in
+    let nodes : inputs + length gs ≡ nodesOf s = ap (λ (g : ℕ). headI s + g) (sound .size) in
+    let kept : SoundLines (headK s) (inputs + length gs) gs = subst (λ (n : ℕ). SoundLines (headK s) n gs) (sym nodes) (sound .lines) in
+    let six = sound .head .k-most in
+    let few : inputs + length gs ≤ mostNodes = omega (arith, sound .head .nodes-most) in
+    let fanins-long : 7 * (inputs + length gs) ≤ length (a .lines .fanins) = omega (arith, room .fanins) in
+    let rows-long : inputs + length gs ≤ length (a .lines .rows) = omega (arith, room .rows) in
+    let is : filled a s ≡ record { lines = lines; outputs = sets (a .outputs) 0 outs } = rw (long, sound-head-of s ruled) in
     rw is
     (record {
-      net = held (nodesOf s) nodes;
-      tables = tables-held (a .lines) (headK s) inputs gs lines six fan-long count-long rows-long outs;
-      outputs = stored-front (a .outputs) outs (omega (arith, room .outputs, sound .few));
-      bounded = net-bounded (a .lines) (headK s) inputs gs lines six fan-long count-long rows-long outs;
-      six = λ v h. counts-small (a .lines) (headK s) inputs gs lines six fan-long count-long rows-long v (omega (arith, nodes));
+      net =
+          subst (λ (n : ℕ). netIn inputs n (lines .fanins) ≡ netOf (tableOf s)) nodes
+          (net-held (a .lines) (headK s) inputs gs kept six fanins-long rows-long outs);
+      tables = tables-held (a .lines) (headK s) inputs gs kept six fanins-long rows-long outs;
+      outputs = stored-run (a .outputs) 0 outs (omega (arith, room .outputs, sound .few));
+      bounded = net-bounded (a .lines) (headK s) inputs gs kept six fanins-long rows-long outs;
+      lists =
+          subst (λ (n : ℕ). ListsIn n (lines .fanins)) nodes
+          (lists-held (a .lines) (headK s) inputs gs kept six fanins-long rows-long outs);
     })

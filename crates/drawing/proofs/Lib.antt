@@ -1,11 +1,11 @@
 pub mod Tables
 pub mod Digits
+pub mod Ids
 pub mod Numbers
 pub mod Verdicts
 pub mod SoundFields
 pub mod SoundTables
 pub mod Places
-pub mod Stores
 pub mod Filled
 pub mod Wholes
 pub mod Held

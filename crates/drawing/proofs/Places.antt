@@ -1,6 +1,7 @@
--- The place that a table's refusal names is small, however many bytes there are: the fields before it are sound, and there are few of them. By
--- induction along the reading: 7 bytes of head, at most 18 a gate and 4 an output.
+-- The place that a table's refusal names is small, however many bytes there are: the fields before it are sound, and there are few of them.
+-- By induction along the reading: the head, at most so many bytes a gate and an output.
 use Prim.Native.Nat.{ℕ, zero, suc, _+_, _*_, _≤_}
+use native.Mathlib.Nat.{suc-mul}
 use native.Mathlib.Omega.{arith}
 use mathlib.Core.Path.{_≡_, refl, ap, sym, _∙_}
 use mathlib.Core.Bool.{Bool, true, false, cond}
@@ -8,17 +9,34 @@ use mathlib.Core.List.{List, [], _∷_, _++_}
 use borrow.Author.Tests.{ltb-false, eqb-true}
 use lib.ListN.{length}
 use lib.Dec.{ltb, eqb}
+use Rattle.drawing.specs.declared.TableForm.{TableForm}
 use Rattle.drawing.specs.declared.Refusal.{Refusal}
 use Rattle.drawing.specs.declared.Refusal.the-variants.{Outputs}
 use Rattle.drawing.specs.declared.Verdict.{Verdict}
 use Rattle.drawing.specs.declared.Verdict.the-variants.{Sound, Refused}
+use Rattle.drawing.specs.Limits.{mostOutputs, frameSize}
 use Rattle.drawing.specs.Refusals.{place}
 use Rattle.drawing.specs.Rules.{Rule, _⇒_, first}
 use Rattle.drawing.specs.Bytes.{lengthAt, valueAt}
+use Rattle.drawing.specs.Forms.{narrowTable, formOf, gatesStart, leastGate, mostGate}
 use Rattle.drawing.specs.Fields.{frameRules, headRules, headVerdict, headG, gateRules, gateVerdict, gateAt, outputRules, outputVerdict, outputId}
-use Rattle.drawing.specs.Reading.{GatesFound, withGate, gatesFrom, OutputsFound, noMore, withOutput, outputsFrom, outputsAt, nodesOf, gatesOf, afterGates, afterHead, found}
+use Rattle.drawing.specs.Reading.{GatesFound, withGate, gatesFrom, OutputsFound, noMore, withOutput, outputsFrom, outputsAt}
+use Rattle.drawing.specs.Reading.{nodesOf, gatesOf, afterGates, afterHead, found}
 use Rattle.drawing.proofs.Verdicts.{none-holds}
 use Rattle.drawing.proofs.SoundFields.{neither, head-sound}
+
+-- the bytes of the longest gate field, of an output field, and before the end of the longest table
+abbrev gateBytes : TableForm → ℕ
+gateBytes form = frameSize + mostGate form
+
+abbrev outputBytes : TableForm → ℕ
+outputBytes form = frameSize + form .width
+
+abbrev farthestOf : TableForm → ℕ
+farthestOf form = gatesStart form + form .most * gateBytes form + mostOutputs * outputBytes form
+
+abbrev pub farthest : ℕ
+farthest = farthestOf narrowTable
 
 -- the place that a verdict names, and another where it is sound
 abbrev placeOr : ℕ → Verdict → ℕ
@@ -41,80 +59,98 @@ At at v = placeOr at v ≡ at
 
 head-place : (s : List ℕ) → At 0 (headVerdict s)
 unfolding headVerdict
-head-place s = first-so (At 0) Sound (frameRules s 0 1 false ++ headRules s) refl (refl, (refl, (refl, (refl, (refl, (refl, (refl, tt)))))))
+head-place s =
+    let form = formOf s in
+    first-so (At 0) Sound (frameRules s 0 (form .head) false ++ headRules form s) refl
+    (refl, (refl, (refl, (refl, (refl, (refl, (refl, tt)))))))
 
-gate-place : (s : List ℕ) (at k nodes : ℕ) → At at (gateVerdict s at k nodes)
-unfolding gateVerdict
-gate-place s at k nodes =
-    first-so (At at) Sound (frameRules s at 2 false ++ gateRules s at k nodes) refl (refl, (refl, (refl, (refl, (refl, (refl, (refl, tt)))))))
+module _ (form : TableForm) (s : List ℕ) where
+  gate-place : (at k nodes : ℕ) → At at (gateVerdict form s at k nodes)
+  unfolding gateVerdict
+  gate-place at k nodes =
+      first-so (At at) Sound (frameRules s at (form .gate) false ++ gateRules form s at k nodes) refl
+      (refl, (refl, (refl, (refl, (refl, (refl, (refl, tt)))))))
 
-output-place : (s : List ℕ) (at room nodes : ℕ) → At at (outputVerdict s at room nodes)
-unfolding outputVerdict
-output-place s at room nodes =
-    first-so (At at) Sound (frameRules s at 3 (eqb room 0) ++ outputRules s at nodes) refl (refl, (refl, (refl, (refl, (refl, (refl, (refl, tt)))))))
+  output-place : (at room nodes : ℕ) → At at (outputVerdict form s at room nodes)
+  unfolding outputVerdict
+  output-place at room nodes =
+      first-so (At at) Sound (frameRules s at (form .output) (eqb room 0) ++ outputRules form s at nodes) refl
+      (refl, (refl, (refl, (refl, (refl, (refl, (refl, tt)))))))
 
-gate-short : (s : List ℕ) (at k nodes : ℕ) → gateVerdict s at k nodes ≡ Sound → lengthAt s at ≤ 15
-unfolding gateVerdict
-gate-short s at k nodes e =
-    let rules = none-holds (frameRules s at 2 false ++ gateRules s at k nodes) tt e in
-    let least = neither (ltb (lengthAt s at) 10) (rules .1 .1 .1 .1 .0) in
-    ltb-false 15 (lengthAt s at) (neither (ltb 15 (lengthAt s at)) (least .1) .0)
+  gate-short : (at k nodes : ℕ) → gateVerdict form s at k nodes ≡ Sound → lengthAt s at ≤ mostGate form
+  unfolding gateVerdict
+  gate-short at k nodes e =
+      let long = lengthAt s at in
+      let rules = none-holds (frameRules s at (form .gate) false ++ gateRules form s at k nodes) tt e in
+      let least = neither (ltb long (leastGate form)) (rules .1 .1 .1 .1 .0) in
+      ltb-false (mostGate form) long (neither (ltb (mostGate form) long) (least .1) .0)
 
--- where gates end, or the one that is refused starts
-gates-place : (s : List ℕ) (k nodes due at : ℕ) → placeOr (gatesFrom s k nodes due at .next) (gatesFrom s k nodes due at .verdict) ≤ at + due * 18
-unfolding gatesFrom
-gates-place s k nodes zero at = omega arith
-gates-place s k nodes (suc due) at = by (gateVerdict s at k nodes) refl (gates-place s k nodes due (valueAt at + lengthAt s at))
-  where
-    rest : GatesFound
-    rest = gatesFrom s k nodes due (valueAt at + lengthAt s at)
+  -- where gates end, or the one that is refused starts
+  gates-place : (k nodes due at : ℕ) →
+      placeOr (gatesFrom form s k nodes due at .next) (gatesFrom form s k nodes due at .verdict) ≤ at + due * gateBytes form
+  unfolding gatesFrom
+  gates-place k nodes zero at = omega arith
+  gates-place k nodes (suc due) at = by (gateVerdict form s at k nodes) refl (gates-place k nodes due (valueAt at + lengthAt s at))
+    where
+      rest : GatesFound
+      rest = gatesFrom form s k nodes due (valueAt at + lengthAt s at)
 
-    by : (v : Verdict) → gateVerdict s at k nodes ≡ v → placeOr (rest .next) (rest .verdict) ≤ valueAt at + lengthAt s at + due * 18 →
-        placeOr (withGate v (gateAt s at) at rest .next) (withGate v (gateAt s at) at rest .verdict) ≤ at + suc due * 18
-    by Sound ruled later = omega (arith, later, gate-short s at k nodes ruled)
-    by (Refused r) ruled later = omega (arith, ap (placeOr at) (sym ruled) ∙ gate-place s at k nodes)
+      by : (v : Verdict) → gateVerdict form s at k nodes ≡ v →
+          placeOr (rest .next) (rest .verdict) ≤ valueAt at + lengthAt s at + due * gateBytes form →
+          placeOr (withGate v (gateAt form s at) at rest .next) (withGate v (gateAt form s at) at rest .verdict) ≤ at + suc due * gateBytes form
+      by Sound ruled later = omega (arith, later, gate-short at k nodes ruled, suc-mul due (gateBytes form))
+      by (Refused r) ruled later = omega (arith, ap (placeOr at) (sym ruled) ∙ gate-place at k nodes)
 
-outputs-place : (s : List ℕ) (nodes room at : ℕ) → placeOr 0 (outputsFrom s nodes room at .verdict) ≤ at + room * 4
-unfolding outputsFrom
-outputs-place s nodes zero at = by (eqb at (length s)) (outputVerdict s at zero nodes) (output-place s at zero nodes)
-  where
-    by : (ended : Bool) (v : Verdict) → placeOr at v ≡ at → placeOr 0 (cond ended (noMore Sound) (noMore v) .verdict) ≤ at + 0 * 4
-    by true v named = omega arith
-    by false Sound named = omega arith
-    by false (Refused r) named = omega (arith, named)
-outputs-place s nodes (suc room) at = by (eqb at (length s)) (outputVerdict s at (suc room) nodes) (output-place s at (suc room) nodes) (outputs-place s nodes room (valueAt at + 1))
-  where
-    rest : OutputsFound
-    rest = outputsFrom s nodes room (valueAt at + 1)
+  outputs-place : (nodes room at : ℕ) → placeOr 0 (outputsFrom form s nodes room at .verdict) ≤ at + room * outputBytes form
+  unfolding outputsFrom
+  outputs-place nodes zero at = by (eqb at (length s)) (outputVerdict form s at zero nodes) (output-place at zero nodes)
+    where
+      by : (ended : Bool) (v : Verdict) → placeOr at v ≡ at → placeOr 0 (cond ended (noMore Sound) (noMore v) .verdict) ≤ at + 0 * outputBytes form
+      by true v named = omega arith
+      by false Sound named = omega arith
+      by false (Refused r) named = omega (arith, named)
+  outputs-place nodes (suc room) at =
+      by (eqb at (length s)) (outputVerdict form s at (suc room) nodes) (output-place at (suc room) nodes)
+      (outputs-place nodes room (valueAt at + form .width))
+    where
+      rest : OutputsFound
+      rest = outputsFrom form s nodes room (valueAt at + form .width)
 
-    by : (ended : Bool) (v : Verdict) → placeOr at v ≡ at → placeOr 0 (rest .verdict) ≤ valueAt at + 1 + room * 4 →
-        placeOr 0 (cond ended (noMore Sound) (withOutput v (outputId s at) rest) .verdict) ≤ at + suc room * 4
-    by true v named later = omega arith
-    by false Sound named later = omega (arith, later)
-    by false (Refused r) named later = omega (arith, named)
+      by : (ended : Bool) (v : Verdict) → placeOr at v ≡ at →
+          placeOr 0 (rest .verdict) ≤ valueAt at + form .width + room * outputBytes form →
+          placeOr 0 (cond ended (noMore Sound) (withOutput v (outputId form s at) rest) .verdict) ≤ at + suc room * outputBytes form
+      by true v named later = omega arith
+      by false Sound named later = omega (arith, later, suc-mul room (outputBytes form))
+      by false (Refused r) named later = omega (arith, named)
 
--- "number of bytes, or that field's start"
-ends-place : (s : List ℕ) (nodes at : ℕ) → placeOr 0 (outputsAt s nodes at .verdict) ≤ at + 256
-ends-place s nodes at = by (eqb at (length s)) refl (outputs-place s nodes 64 at)
-  where
-    by : (ended : Bool) → eqb at (length s) ≡ ended → placeOr 0 (outputsFrom s nodes 64 at .verdict) ≤ at + 64 * 4 →
-        placeOr 0 (cond ended (noMore (Refused (Outputs (length s)))) (outputsFrom s nodes 64 at) .verdict) ≤ at + 256
-    by true same later = omega (arith, eqb-true at (length s) same)
-    by false same later = omega (arith, later)
+  -- "number of bytes, or that field's start"
+  ends-place : (nodes at : ℕ) → placeOr 0 (outputsAt form s nodes at .verdict) ≤ at + mostOutputs * outputBytes form
+  ends-place nodes at = by (eqb at (length s)) refl (outputs-place nodes mostOutputs at)
+    where
+      last : OutputsFound
+      last = outputsFrom form s nodes mostOutputs at
 
-found-place : (s : List ℕ) → placeOr 0 (found s .verdict) ≤ 3719
+      by : (ended : Bool) → eqb at (length s) ≡ ended → placeOr 0 (last .verdict) ≤ at + mostOutputs * outputBytes form →
+          placeOr 0 (cond ended (noMore (Refused (Outputs (length s)))) last .verdict) ≤ at + mostOutputs * outputBytes form
+      by true same later = omega (arith, eqb-true at (length s) same)
+      by false same later = omega (arith, later)
+
+found-place : (s : List ℕ) → placeOr 0 (found s .verdict) ≤ farthest
 unfolding found
 found-place s = by-head (headVerdict s) refl
   where
-    by-gates : (v : Verdict) → gatesOf s .verdict ≡ v → headG s ≤ 192 → placeOr (gatesOf s .next) v ≤ 7 + headG s * 18 → placeOr 0 (afterGates s v (gatesOf s) .verdict) ≤ 3719
-    by-gates Sound ruled few later = omega (arith, few, later, ends-place s (nodesOf s) (gatesOf s .next))
+    by-gates : (v : Verdict) → gatesOf s .verdict ≡ v → headG s ≤ formOf s .most →
+        placeOr (gatesOf s .next) v ≤ gatesStart (formOf s) + headG s * gateBytes (formOf s) →
+        placeOr 0 (afterGates s v (gatesOf s) .verdict) ≤ farthest
+    by-gates Sound ruled few later = omega (arith, few, later, ends-place (formOf s) s (nodesOf s) (gatesOf s .next))
     by-gates (Refused r) ruled few later = omega (arith, few, later)
 
-    by-head : (v : Verdict) → headVerdict s ≡ v → placeOr 0 (afterHead s v .verdict) ≤ 3719
+    by-head : (v : Verdict) → headVerdict s ≡ v → placeOr 0 (afterHead s v .verdict) ≤ farthest
     by-head Sound ruled =
         let sound = head-sound s ruled in
-        by-gates (gatesOf s .verdict) refl (omega (arith, sound .nodes-most)) (gates-place s _ (nodesOf s) (headG s) 7)
+        by-gates (gatesOf s .verdict) refl (omega (arith, sound .nodes-most))
+        (gates-place (formOf s) s _ (nodesOf s) (headG s) (gatesStart (formOf s)))
     by-head (Refused r) ruled = omega (arith, ap (placeOr 0) (sym ruled) ∙ head-place s)
 
-pub refused-place : (s : List ℕ) {r : Refusal} → found s .verdict ≡ Refused r → place r ≤ 3719
+pub refused-place : (s : List ℕ) {r : Refusal} → found s .verdict ≡ Refused r → place r ≤ farthest
 refused-place s {r} e = omega (arith, found-place s, ap (placeOr 0) e)

@@ -9,6 +9,7 @@ use lib.ListN.{length}
 use Rattle.drawing.specs.declared.Refusal.{Refusal}
 use Rattle.drawing.specs.declared.Verdict.{Verdict}
 use Rattle.drawing.specs.declared.Verdict.the-variants.{Sound, Refused}
+use Rattle.drawing.specs.Limits.{frameSize}
 use Rattle.drawing.specs.Rules.{Rule, _⇒_, First, first}
 use Rattle.drawing.specs.Bytes.{lengthAt, valueAt}
 use Rattle.drawing.specs.Fields.{frameRules}
@@ -62,7 +63,7 @@ pub frame-fits :
     valueAt at + lengthAt s at ≤ length s
 frame-fits s at due surplus inside e =
     let rules = none-holds (frameRules s at due surplus) tt e in
-    omega (arith, ltb-false (length s - at) 3 (rules .0), ltb-false (length s - valueAt at) (lengthAt s at) (rules .1 .1 .1 .0))
+    omega (arith, ltb-false (length s - at) frameSize (rules .0), ltb-false (length s - valueAt at) (lengthAt s at) (rules .1 .1 .1 .0))
 
 module _ (rules rest : List (Rule Verdict)) (t : Refusing rules) {v : Verdict} (ruled : v ≡ first Sound rules) where
   pub refused-first : {r : Refusal} → v ≡ Refused r → Refused r ≡ first Sound (rules ++ rest)

@@ -4,19 +4,23 @@ use mathlib.Core.Path.{_≡_, refl, ap, sym, subst, _∙_}
 use mathlib.Core.Bool.{Bool, true, false, _&&_}
 use mathlib.Core.List.{List, []}
 use native.Mathlib.Omega.{arith}
-use borrow.Author.Tests.{leb-true}
-use lib.ListN.{length, replicate}
+use borrow.Author.Tests.{leb-true, le-leb}
+use lib.ListN.{length}
 use lib.Dec.{leb}
 use lib.Seq.{sets}
-use Rattle.drawing.specs.declared.Head.{Head}
+use Rattle.storage.specs.declared.Numbers.{Numbers}
 use Rattle.drawing.specs.declared.Refusal.{Refusal}
 use Rattle.drawing.specs.declared.Verdict.the-variants.{Sound, Refused}
 use Rattle.drawing.specs.declared.Reading.{Reading}
-use Rattle.drawing.specs.declared.Reading.the-variants.{Whole, Lent, Refused as RefusedTable}
+use Rattle.drawing.specs.declared.Reading.the-variants.{Whole, TooShort, Refused as RefusedTable}
 use Rattle.drawing.specs.declared.filling.Ended.{Ended}
 use Rattle.drawing.specs.declared.filling.Ended.the-variants.{At, RefusedFor}
+use Rattle.drawing.specs.declared.TableForm.{TableForm}
+use Rattle.drawing.specs.Limits.{mostNodes, mostOutputs, mostPlaces}
+use Rattle.drawing.specs.Forms.{formOf, gatesStart}
 use Rattle.drawing.specs.Fields.{headVerdict, headK, headI, headG}
-use Rattle.drawing.specs.Reading.{OutputsFound, Found, found, gatesOf, outputsAt, nodesOf, headOf, Lines, linesOf, Arrays, enough, withInputs, putGates, replyOf, reading, filled, Reads}
+use Rattle.drawing.specs.Reading.{OutputsFound, Found, found, gatesOf, outputsAt, nodesOf, numbersWith, replyOf, reading}
+use Rattle.drawing.specs.Reading.{Lines, linesOf, Arrays, enough, noFanins, withInputs, putGates, filled, Reads}
 use Rattle.drawing.specs.Filling.{GatesDone, gatesDone, GatesRead, OutputsRead}
 use Rattle.drawing.proofs.Filled.{ended-refused, ended-at}
 
@@ -30,47 +34,59 @@ both true e = (refl, e)
 both false e = absurd (mathlib.Core.Bool.false≢true e)
 
 pub record Long (a : Arrays) : Type 0 where
-  pub fan : 1152 ≤ length (a .lines .fan)
-  pub count : 192 ≤ length (a .lines .count)
-  pub rows : 192 ≤ length (a .lines .rows)
-  pub outputs : 64 ≤ length (a .outputs)
+  pub fanins : mostPlaces ≤ length (a .lines .fanins)
+  pub rows : mostNodes ≤ length (a .lines .rows)
+  pub outputs : mostOutputs ≤ length (a .outputs)
 
 pub long-enough : (a : Arrays) → enough a ≡ true → Long a
 long-enough a e =
-    let fan = both (leb 1152 (length (a .lines .fan))) e in
-    let count = both (leb 192 (length (a .lines .count))) (fan .1) in
-    let rows = both (leb 192 (length (a .lines .rows))) (count .1) in
+    let fanins = both (leb mostPlaces (length (a .lines .fanins))) e in
+    let rows = both (leb mostNodes (length (a .lines .rows))) (fanins .1) in
     record {
-      fan = leb-true 1152 (length (a .lines .fan)) (fan .0);
-      count = leb-true 192 (length (a .lines .count)) (count .0);
-      rows = leb-true 192 (length (a .lines .rows)) (rows .0);
-      outputs = leb-true 64 (length (a .outputs)) (rows .1);
+      fanins = leb-true mostPlaces (length (a .lines .fanins)) (fanins .0);
+      rows = leb-true mostNodes (length (a .lines .rows)) (rows .0);
+      outputs = leb-true mostOutputs (length (a .outputs)) (rows .1);
     }
 
+pub enough-long : (a : Arrays) → Long a → enough a ≡ true
+enough-long a long =
+    simp (
+      le-leb mostPlaces (length (a .lines .fanins)) (long .fanins),
+      le-leb mostNodes (length (a .lines .rows)) (long .rows),
+      le-leb mostOutputs (length (a .outputs)) (long .outputs),
+    )
+
 module _ (a : Arrays) (s : List ℕ) where
-  pub reads-lent : enough a ≡ false → Reads a s Lent a
+  pub reads-short : enough a ≡ false → Reads a s TooShort a
   unfolding reading filled
-  reads-lent short = record { reply = rw short; arrays = rw short }
+  reads-short short = record { reply = rw short; arrays = rw short }
 
   pub reads-no-head : {r : Refusal} → enough a ≡ true → headVerdict s ≡ Refused r → Reads a s (RefusedTable r) a
   unfolding reading filled found
   reads-no-head long ruled = record { reply = rw (long, ruled); arrays = rw (long, ruled) }
 
--- The gates as the code reads them, by the head's numbers, are the gates of the table.
+-- The gates as the code reads them, by the head's numbers, are the gates of the table; and so are the outputs.
 pub as-headed :
-    (s fan count rows : List ℕ) {count′ : List ℕ} {h : Head} {ended : Ended} {lines : Lines} → h ≡ headOf s →
-    count′ ≡ sets count 0 (replicate (h .inputs) 0) →
-    GatesRead (linesOf fan count′ rows) s (h .k .leaves) (h .inputs + h .gates) (h .inputs) 7 ended lines →
-    GatesRead (withInputs (linesOf fan count rows) (headI s)) s (headK s) (nodesOf s) (headI s) 7 ended lines
-as-headed s fan count rows {count′} {h} {ended} {lines} head cleared read =
-    subst (λ (g : Head). GatesRead (withInputs (linesOf fan count rows) (g .inputs)) s (g .k .leaves) (g .inputs + g .gates) (g .inputs) 7 ended lines) head
-    (subst (λ (c : List ℕ). GatesRead (linesOf fan c rows) s (h .k .leaves) (h .inputs + h .gates) (h .inputs) 7 ended lines) cleared read)
+    (s fanins rows : List ℕ) {form : TableForm} {fanins′ : List ℕ} {h : Numbers} {ended : Ended} {lines : Lines} → form ≡ formOf s →
+    h ≡ numbersWith s 0 → fanins′ ≡ noFanins fanins (h .inputs) →
+    GatesRead form (linesOf fanins′ rows) s (h .k .leaves) (h .nodes) (h .inputs) (gatesStart form) ended lines →
+    GatesRead (formOf s) (withInputs (linesOf fanins rows) (headI s)) s (headK s) (nodesOf s) (headI s) (gatesStart (formOf s)) ended lines
+as-headed s fanins rows {form} {fanins′} {h} {ended} {lines} formed head inputs read =
+    subst
+    (λ (n : Numbers). GatesRead (formOf s) (linesOf (noFanins fanins (n .inputs)) rows) s (n .k .leaves) (n .nodes) (n .inputs)
+    (gatesStart (formOf s)) ended lines)
+    head
+    (subst
+    (λ (f : TableForm). GatesRead f (linesOf (noFanins fanins (h .inputs)) rows) s (h .k .leaves) (h .nodes) (h .inputs) (gatesStart f) ended lines)
+    formed
+    (subst (λ (c : List ℕ). GatesRead form (linesOf c rows) s (h .k .leaves) (h .nodes) (h .inputs) (gatesStart form) ended lines) inputs read))
 
 pub outputs-as-headed :
-    (s before : List ℕ) (at : ℕ) {h : Head} {ended : Ended} {after : List ℕ} → h ≡ headOf s →
-    OutputsRead before 0 (outputsAt s (h .inputs + h .gates) at) ended after → OutputsRead before 0 (outputsAt s (nodesOf s) at) ended after
-outputs-as-headed s before at {h} {ended} {after} head read =
-    subst (λ (g : Head). OutputsRead before 0 (outputsAt s (g .inputs + g .gates) at) ended after) head read
+    (s before : List ℕ) (at : ℕ) {form : TableForm} {h : Numbers} {ended : Ended} {after : List ℕ} → form ≡ formOf s → h ≡ numbersWith s 0 →
+    OutputsRead before 0 (outputsAt form s (h .nodes) at) ended after → OutputsRead before 0 (outputsAt (formOf s) s (nodesOf s) at) ended after
+outputs-as-headed s before at {form} {h} {ended} {after} formed head read =
+    subst (λ (n : Numbers). OutputsRead before 0 (outputsAt (formOf s) s (n .nodes) at) ended after) head
+    (subst (λ (f : TableForm). OutputsRead before 0 (outputsAt f s (h .nodes) at) ended after) formed read)
 
 module _ (a : Arrays) (s : List ℕ) (long : enough a ≡ true) (head : headVerdict s ≡ Sound) where
   reads-found :
@@ -84,13 +100,19 @@ module _ (a : Arrays) (s : List ℕ) (long : enough a ≡ true) (head : headVerd
   due = omega arith
 
   abbrev done : GatesDone
-  done = gatesDone s (headK s) (nodesOf s) (withInputs (a .lines) (headI s)) (headI s) 7
+  done = gatesDone (formOf s) s (headK s) (nodesOf s) (withInputs (a .lines) (headI s)) (headI s) (gatesStart (formOf s))
 
-  gates-found : done ≡ record { lines = putGates (withInputs (a .lines) (headI s)) (headI s) (gatesOf s .gates); verdict = gatesOf s .verdict; next = gatesOf s .next }
+  gates-found :
+      done
+      ≡ record {
+        lines = putGates (withInputs (a .lines) (headI s)) (headI s) (gatesOf s .gates);
+        verdict = gatesOf s .verdict;
+        next = gatesOf s .next;
+      }
   gates-found = rw due
 
   module _ {ended : Ended} {lines : Lines}
-      (read : GatesRead (withInputs (a .lines) (headI s)) s (headK s) (nodesOf s) (headI s) 7 ended lines) where
+      (read : GatesRead (formOf s) (withInputs (a .lines) (headI s)) s (headK s) (nodesOf s) (headI s) (gatesStart (formOf s)) ended lines) where
     stored : lines ≡ putGates (withInputs (a .lines) (headI s)) (headI s) (gatesOf s .gates)
     stored = read .lines ∙ ap (λ (d : GatesDone). d .lines) gates-found
 
@@ -103,9 +125,9 @@ module _ (a : Arrays) (s : List ℕ) (long : enough a ≡ true) (head : headVerd
         rw stored (reads-found is)
 
     module _ {at : ℕ} (sound : ended ≡ At at) {last : Ended} {outputs : List ℕ}
-        (rest : OutputsRead (a .outputs) 0 (outputsAt s (nodesOf s) at) last outputs) where
+        (rest : OutputsRead (a .outputs) 0 (outputsAt (formOf s) s (nodesOf s) at) last outputs) where
       abbrev tail : OutputsFound
-      tail = outputsAt s (nodesOf s) at
+      tail = outputsAt (formOf s) s (nodesOf s) at
 
       is : found s ≡ record { gates = gatesOf s .gates; outputs = tail .outputs; verdict = tail .verdict }
       unfolding found
@@ -121,7 +143,7 @@ module _ (a : Arrays) (s : List ℕ) (long : enough a ≡ true) (head : headVerd
           let ends : found s ≡ record { gates = gatesOf s .gates; outputs = tail .outputs; verdict = Refused r } = is ∙ rw ruled in
           rw (stored, rest .outputs) (reads-found ends)
 
-      pub reads-whole : {n : ℕ} → last ≡ At n → Reads a s (Whole (headOf s) n) (record { lines = lines; outputs = outputs })
+      pub reads-whole : {n : ℕ} → last ≡ At n → Reads a s (Whole (numbersWith s n)) (record { lines = lines; outputs = outputs })
       reads-whole {n} e =
           let ruled = ended-at (tail .verdict) (0 + length (tail .outputs)) (sym (rest .reply) ∙ e) in
           let ends : found s ≡ record { gates = gatesOf s .gates; outputs = tail .outputs; verdict = Sound } = is ∙ rw (ruled .0) in

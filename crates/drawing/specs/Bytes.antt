@@ -1,10 +1,11 @@
 -- Numbers in a table's bytes.
-use Prim.Native.Nat.{ℕ, _+_, _*_, _<_}
+use Prim.Native.Nat.{ℕ, zero, suc, _+_, _*_, _^_, _≤_, _<_}
 use mathlib.Core.Path.{_≡_}
 use mathlib.Core.Bool.{Bool, false, _||_}
 use mathlib.Core.List.{List, [], _∷_}
 use lib.ListN.{getD, take, drop}
 use lib.Dec.{leb}
+use Rattle.drawing.specs.Limits.{lengthSize, frameSize}
 
 -- "high byte first": the bytes as digits behind the number read so far
 unfoldable pub highFirst : ℕ → List ℕ → ℕ
@@ -20,16 +21,32 @@ abbrev pub tagAt : List ℕ → ℕ → ℕ
 tagAt s at = getD s at 0
 
 abbrev pub lengthAt : List ℕ → ℕ → ℕ
-lengthAt s at = numberAt s (at + 1) 2
+lengthAt s at = numberAt s (at + 1) lengthSize
 
 -- where the value of the field at `at` starts
 abbrev pub valueAt : ℕ → ℕ
-valueAt at = at + 3
+valueAt at = at + frameSize
+
+-- numbers of `width` bytes, one after the other
+abbrev pub idsAt : List ℕ → (at width count : ℕ) → List ℕ
+idsAt s at width zero = []
+idsAt s at width (suc count) = numberAt s at width ∷ idsAt s (at + width) width count
 
 -- "an id of n or more" among the ids
 unfoldable pub someFrom : ℕ → List ℕ → Bool
 someFrom n [] = false
 someFrom n (v ∷ vs) = leb n v || someFrom n vs
+
+-- ids of one byte or two
+pub record Narrow (width : ℕ) : Type 0 where
+  pub some : 1 ≤ width
+  pub few : width ≤ 2
+
+-- r is the number at a place, and fits its bytes, which are two at most
+pub record SmallAt (s : List ℕ) (at width r : ℕ) : Type 0 where
+  pub number : r ≡ numberAt s at width
+  pub small : r < 256 ^ width
+  pub fits : r < 65536
 
 -- r is the byte at a place, and fits a byte
 pub record ByteAt (s : List ℕ) (at r : ℕ) : Type 0 where

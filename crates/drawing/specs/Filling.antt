@@ -4,11 +4,14 @@ use mathlib.Core.Path.{_≡_}
 use mathlib.Core.List.{List}
 use lib.ListN.{length}
 use lib.Seq.{sets}
+use Rattle.drawing.specs.declared.TableForm.{TableForm}
 use Rattle.drawing.specs.declared.Verdict.{Verdict}
 use Rattle.drawing.specs.declared.Verdict.the-variants.{Sound, Refused}
 use Rattle.drawing.specs.declared.filling.Ended.{Ended}
 use Rattle.drawing.specs.declared.filling.Ended.the-variants.{At, RefusedFor}
+use Rattle.drawing.specs.Limits.{mostK}
 use Rattle.drawing.specs.Bytes.{lengthAt, valueAt}
+use Rattle.drawing.specs.Forms.{Formed, gatesStart, gateSize}
 use Rattle.drawing.specs.Fields.{gateM, gateAt, gateVerdict}
 use Rattle.drawing.specs.Reading.{Lines, gatesFrom, OutputsFound, putGate, putGates}
 
@@ -17,39 +20,39 @@ endOf Sound next = At next
 endOf (Refused r) next = RefusedFor r
 
 -- A gate's line can be stored at node v: its value lies within the bytes, and its entries within the arrays.
-pub record GateFits (s : List ℕ) (at v : ℕ) (a : Lines) : Type 0 where
-  pub whole : valueAt at + 9 + gateM s at ≤ length s
-  pub few : gateM s at ≤ 6
-  pub fan : 6 * v + 6 ≤ length (a .fan)
-  pub count : v < length (a .count)
+pub record GateFits (form : TableForm) (s : List ℕ) (at v : ℕ) (a : Lines) : Type 0 where
+  pub formed : Formed form
+  pub whole : valueAt at + gateSize form (gateM s at) ≤ length s
+  pub few : gateM s at ≤ mostK
+  pub fanins : 7 * v + 7 ≤ length (a .fanins)
   pub rows : v < length (a .rows)
 
 -- A gate can be read at `at` for node v: K is the paper's at most, and v's entries lie within the arrays.
-pub record GateTurn (s : List ℕ) (at k v : ℕ) (a : Lines) : Type 0 where
+pub record GateTurn (form : TableForm) (s : List ℕ) (at k v : ℕ) (a : Lines) : Type 0 where
+  pub formed : Formed form
   pub inside : at ≤ length s
-  pub small : k ≤ 6
-  pub fan : 6 * v + 6 ≤ length (a .fan)
-  pub count : v < length (a .count)
+  pub small : k ≤ mostK
+  pub fanins : 7 * v + 7 ≤ length (a .fanins)
   pub rows : v < length (a .rows)
 
 -- one gate read, or refused
-abbrev pub gateStored : Lines → ℕ → List ℕ → ℕ → Verdict → Lines
-gateStored a v s at Sound = putGate a v (gateAt s at)
-gateStored a v s at (Refused r) = a
+abbrev pub gateStored : TableForm → Lines → ℕ → List ℕ → ℕ → Verdict → Lines
+gateStored form a v s at Sound = putGate a v (gateAt form s at)
+gateStored form a v s at (Refused r) = a
 
-pub record GateRead (before : Lines) (s : List ℕ) (at k nodes v : ℕ) (r : Ended) (after : Lines) : Type 0 where
-  pub reply : r ≡ endOf (gateVerdict s at k nodes) (valueAt at + lengthAt s at)
-  pub lines : after ≡ gateStored before v s at (gateVerdict s at k nodes)
+pub record GateRead (form : TableForm) (before : Lines) (s : List ℕ) (at k nodes v : ℕ) (r : Ended) (after : Lines) : Type 0 where
+  pub reply : r ≡ endOf (gateVerdict form s at k nodes) (valueAt at + lengthAt s at)
+  pub lines : after ≡ gateStored form before v s at (gateVerdict form s at k nodes)
 
--- The gates of a sound head can be read: the numbers are the paper's, and the arrays are long enough.
-pub record GatesFit (s : List ℕ) (k inputs nodes : ℕ) (a : Lines) : Type 0 where
-  pub head : 7 ≤ length s
-  pub small : k ≤ 6
+-- The gates of a sound head can be read: K is the paper's at most, ids fit 16 bits, and the arrays are long enough.
+pub record GatesFit (form : TableForm) (s : List ℕ) (k inputs nodes : ℕ) (a : Lines) : Type 0 where
+  pub formed : Formed form
+  pub head : gatesStart form ≤ length s
+  pub k-small : k ≤ mostK
   pub span : inputs ≤ nodes
-  pub most : nodes ≤ 192
-  pub fan : 1152 ≤ length (a .fan)
-  pub count : 192 ≤ length (a .count)
-  pub rows : 192 ≤ length (a .rows)
+  pub small : nodes ≤ 32767
+  pub fanins : 7 * nodes ≤ length (a .fanins)
+  pub rows : nodes ≤ length (a .rows)
 
 -- the gates from node v on, read at `at`
 pub record GatesDone : Type 0 where
@@ -57,14 +60,14 @@ pub record GatesDone : Type 0 where
   pub verdict : Verdict
   pub next : ℕ
 
-abbrev pub gatesDone : List ℕ → (k nodes : ℕ) → Lines → (v at : ℕ) → GatesDone
-gatesDone s k nodes a v at =
-    let rest = gatesFrom s k nodes (nodes - v) at in
+abbrev pub gatesDone : TableForm → List ℕ → (k nodes : ℕ) → Lines → (v at : ℕ) → GatesDone
+gatesDone form s k nodes a v at =
+    let rest = gatesFrom form s k nodes (nodes - v) at in
     record { lines = putGates a v (rest .gates); verdict = rest .verdict; next = rest .next }
 
-pub record GatesRead (before : Lines) (s : List ℕ) (k nodes v at : ℕ) (r : Ended) (after : Lines) : Type 0 where
-  pub reply : r ≡ endOf (gatesDone s k nodes before v at .verdict) (gatesDone s k nodes before v at .next)
-  pub lines : after ≡ gatesDone s k nodes before v at .lines
+pub record GatesRead (form : TableForm) (before : Lines) (s : List ℕ) (k nodes v at : ℕ) (r : Ended) (after : Lines) : Type 0 where
+  pub reply : r ≡ endOf (gatesDone form s k nodes before v at .verdict) (gatesDone form s k nodes before v at .next)
+  pub lines : after ≡ gatesDone form s k nodes before v at .lines
   pub inside : (next : ℕ) → r ≡ At next → next ≤ length s
 
 -- the outputs from the i-th on, read at `at`

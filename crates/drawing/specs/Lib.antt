@@ -1,5 +1,7 @@
+pub mod Limits
 pub mod Rules
 pub mod Bytes
+pub mod Forms
 pub mod Refusals
 pub mod Table
 pub mod Fields

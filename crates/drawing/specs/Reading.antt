@@ -1,18 +1,22 @@
--- Reading a gate table, and what the lent arrays hold after it. "Order: one head, G gates, then outputs to the end." "Fields go left to right and the first fault is the reply."
+-- Reading a gate table, and what the lent arrays hold after it.
+-- "Order: one head, G gates, then outputs to the end." "Fields go left to right and the first fault is the reply."
 use Prim.Native.Nat.{ℕ, zero, suc, _+_, _*_}
 use mathlib.Core.Path.{_≡_}
 use mathlib.Core.Bool.{Bool, cond, _&&_}
 use mathlib.Core.List.{List, [], _∷_}
-use lib.ListN.{length, set, replicate}
+use lib.ListN.{length, set}
 use lib.Seq.{sets}
 use lib.Dec.{leb, eqb}
-use Rattle.drawing.specs.declared.Head.{Head}
+use Rattle.storage.specs.declared.Numbers.{Numbers}
+use Rattle.drawing.specs.declared.TableForm.{TableForm}
 use Rattle.drawing.specs.declared.Refusal.the-variants.{Outputs}
 use Rattle.drawing.specs.declared.Verdict.{Verdict}
 use Rattle.drawing.specs.declared.Verdict.the-variants.{Sound, Refused}
 use Rattle.drawing.specs.declared.Reading.{Reading}
-use Rattle.drawing.specs.declared.Reading.the-variants.{Whole, Lent, Refused as RefusedFor}
+use Rattle.drawing.specs.declared.Reading.the-variants.{Whole, TooShort, Refused as RefusedFor}
+use Rattle.drawing.specs.Limits.{mostNodes, mostOutputs, mostPlaces}
 use Rattle.drawing.specs.Bytes.{lengthAt, valueAt}
+use Rattle.drawing.specs.Forms.{formOf, gatesStart}
 use Rattle.drawing.specs.Table.{GateLine, Table}
 use Rattle.drawing.specs.Fields.{headVerdict, headK, headI, headG, gateVerdict, gateAt, outputVerdict, outputId}
 
@@ -26,11 +30,11 @@ abbrev pub withGate : Verdict → GateLine → ℕ → GatesFound → GatesFound
 withGate Sound g at rest = record { gates = g ∷ rest .gates; verdict = rest .verdict; next = rest .next }
 withGate (Refused r) g at rest = record { gates = []; verdict = Refused r; next = at }
 
-unfoldable pub gatesFrom : List ℕ → (k nodes due at : ℕ) → GatesFound
-gatesFrom s k nodes zero at = record { gates = []; verdict = Sound; next = at }
-gatesFrom s k nodes (suc due) at =
-    let rest = gatesFrom s k nodes due (valueAt at + lengthAt s at) in
-    withGate (gateVerdict s at k nodes) (gateAt s at) at rest
+unfoldable pub gatesFrom : TableForm → List ℕ → (k nodes due at : ℕ) → GatesFound
+gatesFrom form s k nodes zero at = record { gates = []; verdict = Sound; next = at }
+gatesFrom form s k nodes (suc due) at =
+    let rest = gatesFrom form s k nodes due (valueAt at + lengthAt s at) in
+    withGate (gateVerdict form s at k nodes) (gateAt form s at) at rest
 
 -- The outputs read whole from some place on, and the ruling on them.
 pub record OutputsFound : Type 0 where
@@ -45,15 +49,15 @@ withOutput Sound id rest = record { outputs = id ∷ rest .outputs; verdict = re
 withOutput (Refused r) id rest = noMore (Refused r)
 
 -- `room` more outputs may follow. Where it is 0 no output field is sound.
-unfoldable pub outputsFrom : List ℕ → (nodes room at : ℕ) → OutputsFound
-outputsFrom s nodes zero at = cond (eqb at (length s)) (noMore Sound) (noMore (outputVerdict s at zero nodes))
-outputsFrom s nodes (suc room) at =
-    let rest = outputsFrom s nodes room (valueAt at + 1) in
-    cond (eqb at (length s)) (noMore Sound) (withOutput (outputVerdict s at (suc room) nodes) (outputId s at) rest)
+unfoldable pub outputsFrom : TableForm → List ℕ → (nodes room at : ℕ) → OutputsFound
+outputsFrom form s nodes zero at = cond (eqb at (length s)) (noMore Sound) (noMore (outputVerdict form s at zero nodes))
+outputsFrom form s nodes (suc room) at =
+    let rest = outputsFrom form s nodes room (valueAt at + form .width) in
+    cond (eqb at (length s)) (noMore Sound) (withOutput (outputVerdict form s at (suc room) nodes) (outputId form s at) rest)
 
 -- "bytes end after the last gate with no output, or a 65th tag 3 begins"
-abbrev pub outputsAt : List ℕ → (nodes at : ℕ) → OutputsFound
-outputsAt s nodes at = cond (eqb at (length s)) (noMore (Refused (Outputs (length s)))) (outputsFrom s nodes 64 at)
+abbrev pub outputsAt : TableForm → List ℕ → (nodes at : ℕ) → OutputsFound
+outputsAt form s nodes at = cond (eqb at (length s)) (noMore (Refused (Outputs (length s)))) (outputsFrom form s nodes mostOutputs at)
 
 -- What is found in a table's bytes: all that was read whole up to the end or the first fault, and the ruling.
 pub record Found : Type 0 where
@@ -65,11 +69,11 @@ abbrev pub nodesOf : List ℕ → ℕ
 nodesOf s = headI s + headG s
 
 abbrev pub gatesOf : List ℕ → GatesFound
-gatesOf s = gatesFrom s (headK s) (nodesOf s) (headG s) 7
+gatesOf s = gatesFrom (formOf s) s (headK s) (nodesOf s) (headG s) (gatesStart (formOf s))
 
 abbrev pub afterGates : List ℕ → Verdict → GatesFound → Found
 afterGates s Sound g =
-    let o = outputsAt s (nodesOf s) (g .next) in
+    let o = outputsAt (formOf s) s (nodesOf s) (g .next) in
     record { gates = g .gates; outputs = o .outputs; verdict = o .verdict }
 afterGates s (Refused r) g = record { gates = g .gates; outputs = []; verdict = Refused r }
 
@@ -84,44 +88,54 @@ found s = afterHead s (headVerdict s)
 abbrev pub tableOf : List ℕ → Table
 tableOf s = record { k = headK s; inputs = headI s; gates = found s .gates; outputs = found s .outputs }
 
-abbrev pub headOf : List ℕ → Head
-headOf s = record { k = record { leaves = headK s }; inputs = headI s; gates = headG s }
+-- the head's numbers, with this many roots
+abbrev pub numbersWith : List ℕ → ℕ → Numbers
+numbersWith s roots = record { k = record { leaves = headK s }; inputs = headI s; nodes = nodesOf s; roots = roots }
 
--- The arrays for the gates' lines that a caller lends: six places a node for its fanins, how many, and the table.
+-- what a walk stops at: the inputs
+abbrev pub sourcesOf : List ℕ → ℕ
+sourcesOf s = headI s
+
+-- what a cover has to reach: the outputs
+abbrev pub rootsOf : List ℕ → List ℕ
+rootsOf s = found s .outputs
+
+-- the table's numbers
+abbrev pub numbersOf : List ℕ → Numbers
+numbersOf s = numbersWith s (length (rootsOf s))
+
+-- The arrays for the gates' lines that a caller lends: seven places a node for the number of its fanins and their ids, and one for its table.
 pub record Lines : Type 0 where
-  pub fan : List ℕ
-  pub count : List ℕ
+  pub fanins : List ℕ
   pub rows : List ℕ
 
 pub record Arrays : Type 0 where
   pub lines : Lines
   pub outputs : List ℕ
 
-abbrev pub linesOf : (fan count rows : List ℕ) → Lines
-linesOf fan count rows = record { fan = fan; count = count; rows = rows }
+abbrev pub linesOf : (fanins rows : List ℕ) → Lines
+linesOf fanins rows = record { fanins = fanins; rows = rows }
 
-abbrev pub arraysOf : (fan count rows outputs : List ℕ) → Arrays
-arraysOf fan count rows outputs = record { lines = linesOf fan count rows; outputs = outputs }
+abbrev pub arraysOf : (fanins rows outputs : List ℕ) → Arrays
+arraysOf fanins rows outputs = record { lines = linesOf fanins rows; outputs = outputs }
 
--- long enough for the largest table: 192 nodes and 64 outputs
+-- long enough for the largest table
 abbrev pub enough : Arrays → Bool
 enough a =
-    leb 1152 (length (a .lines .fan))
-    && (leb 192 (length (a .lines .count)) && (leb 192 (length (a .lines .rows)) && leb 64 (length (a .outputs))))
+    leb mostPlaces (length (a .lines .fanins)) && (leb mostNodes (length (a .lines .rows)) && leb mostOutputs (length (a .outputs)))
 
--- an input has no fanins
+-- an input has no fanins: 0 where the number of its fanins is
+unfoldable pub noFanins : List ℕ → ℕ → List ℕ
+noFanins fanins zero = fanins
+noFanins fanins (suc v) = set (noFanins fanins v) (7 * v) 0
+
 abbrev pub withInputs : Lines → ℕ → Lines
-withInputs a inputs =
-    record { fan = a .fan; count = sets (a .count) 0 (replicate inputs 0); rows = a .rows }
+withInputs a inputs = record { fanins = noFanins (a .fanins) inputs; rows = a .rows }
 
 -- a gate's line at node v
 abbrev pub putGate : Lines → ℕ → GateLine → Lines
 putGate a v g =
-    record {
-      fan = sets (a .fan) (6 * v) (g .fanins);
-      count = set (a .count) v (length (g .fanins));
-      rows = set (a .rows) v (g .table);
-    }
+    record { fanins = sets (a .fanins) (7 * v) (length (g .fanins) ∷ g .fanins); rows = set (a .rows) v (g .table) }
 
 -- lines of gates at the nodes from v on
 unfoldable pub putGates : Lines → ℕ → List GateLine → Lines
@@ -129,12 +143,12 @@ putGates a v [] = a
 putGates a v (g ∷ gs) = putGates (putGate a v g) (suc v) gs
 
 abbrev pub replyOf : List ℕ → Found → Verdict → Reading
-replyOf s f Sound = Whole (headOf s) (length (f .outputs))
+replyOf s f Sound = Whole (numbersWith s (length (f .outputs)))
 replyOf s f (Refused r) = RefusedFor r
 
 -- The reply to a table's bytes.
 unfoldable pub reading : Arrays → List ℕ → Reading
-reading a s = cond (enough a) (replyOf s (found s) (found s .verdict)) Lent
+reading a s = cond (enough a) (replyOf s (found s) (found s .verdict)) TooShort
 
 -- What is read whole stands in the arrays: once the head is sound an input has no fanins, and each gate and output read whole has its
 -- entries, whether or not a fault comes later. All else is as before.

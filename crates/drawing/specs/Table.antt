@@ -1,8 +1,8 @@
 -- A gate table as a value, and the net that it stands for.
-use Prim.Native.Nat.{ℕ, _+_, _*_, _-_}
+use Prim.Native.Nat.{ℕ, _+_, _-_}
 use mathlib.Core.Bool.{cond}
 use mathlib.Core.List.{List, []}
-use lib.ListN.{length, getD, take, drop}
+use lib.ListN.{length, getD}
 use lib.Dec.{ltb}
 use Rattle.theory.specs.Net.{Net}
 
@@ -30,12 +30,3 @@ netOf t = record { inputs = t .inputs; nodes = t .inputs + length (t .gates); fa
 
 abbrev pub tablesOf : Table → ℕ → ℕ
 tablesOf t v = lineOf t v .table
-
--- The net that arrays hold: six places a node for its fanins, and how many of them are used; and the tables.
-unfoldable pub netIn : (inputs nodes : ℕ) (fan count : List ℕ) → Net
-netIn inputs nodes fan count =
-    record
-    { inputs = inputs; nodes = nodes; fanins = λ v. cond (ltb v nodes) (take (getD count v 0) (drop (6 * v) fan)) [] }
-
-abbrev pub tablesIn : List ℕ → ℕ → ℕ
-tablesIn rows v = getD rows v 0

@@ -1,26 +1,41 @@
-// A drawing's numbers, and the reading of a gate table: its bytes into arrays that the caller lends.
+// The reading of a gate table: its bytes into arrays that the caller lends.
 pub mod bytes;
 mod fields;
 mod filling;
+pub mod limits;
 pub mod refusals;
 
 use crate::filling::Ended;
+use crate::limits::GATE;
+use crate::limits::GATES_AT;
+use crate::limits::HEAD;
+use crate::limits::HEAD_SIZE;
+use crate::limits::ID_SIZE;
+use crate::limits::INPUTS_AT;
+use crate::limits::K_AT;
+use crate::limits::LEAST_NODES;
+use crate::limits::MOST_NODES;
+use crate::limits::MOST_OUTPUTS;
+use crate::limits::MOST_PLACES;
+use crate::limits::OUTPUT;
+use storage::CutSize;
+use storage::Numbers;
 ghost use mathlib.Core.Path.{_≡_};
 ghost use mathlib.Core.Bool.{true};
+ghost use Rattle.drawing.specs.Forms.{narrowTable, formOf};
 ghost use Rattle.drawing.specs.Fields.{headVerdict};
-ghost use Rattle.drawing.specs.Reading.{arraysOf, enough, headOf, Reads};
+ghost use Rattle.drawing.specs.Reading.{arraysOf, enough, numbersWith, Reads};
 
-// Document 01 names a label, a node cut-size and a node separately: three types, so that none can stand for another.
-pub struct Node {
-    pub id: u16,
-}
-
-pub struct Label {
-    pub depth: u16,
-}
-
-pub struct CutSize {
-    pub leaves: u8,
+// The form of a gate table: in how many bytes it writes an id, and G; the tags of its fields; how many bytes a head's value has; and the
+// least and the most nodes.
+pub struct TableForm {
+    pub width: usize,
+    pub head: usize,
+    pub gate: usize,
+    pub output: usize,
+    pub size: usize,
+    pub least: usize,
+    pub most: usize,
 }
 
 // What a gate table is refused for, with the place that the refusal names.
@@ -39,88 +54,102 @@ pub enum Verdict {
     Refused(Refusal),
 }
 
-// The numbers of a table's head: K, I and G.
-pub struct Head {
-    pub k: CutSize,
-    pub inputs: usize,
-    pub gates: usize,
-}
-
-// What a gate table's bytes are: a whole table with its head and its number of outputs, or refused.
-// Lent: an array that the caller lent is shorter than the largest table needs, and the bytes were not looked at.
+// What a gate table's bytes are: a whole table with its numbers, whose roots are its outputs; or refused.
+// TooShort: an array that the caller lent is shorter than the largest table needs, and the bytes were not looked at.
 pub enum Reading {
-    Whole(Head, usize),
+    Whole(Numbers),
     Refused(Refusal),
-    Lent,
+    TooShort,
 }
 
-// The head of a table whose head is sound.
-fn sound_head(table: &[u8]) -> Head
-    requires { ⌜ headVerdict (now table) ≡ Verdict.Sound ⌝ }
-    ensures { λ r. ⌜ r ≡ headOf (now (table .entry)) ⌝ }
+// Document 01's form.
+pub fn narrow_table() -> TableForm
+    ensures { λ r. ⌜ r ≡ narrowTable ⌝ }
 {
-    Head {
-        k: CutSize { leaves: table[4] },
-        inputs: bytes::byte_at(table, 5),
-        gates: bytes::byte_at(table, 6),
+    TableForm {
+        width: ID_SIZE,
+        head: HEAD,
+        gate: GATE,
+        output: OUTPUT,
+        size: HEAD_SIZE,
+        least: LEAST_NODES,
+        most: MOST_NODES,
+    }
+}
+
+// The numbers of a sound head, which says nothing of outputs.
+fn sound_head(form: TableForm, table: &[u8]) -> Numbers
+    requires { ⌜ form ≡ formOf (now table) ⌝ }
+    requires { ⌜ headVerdict (now table) ≡ Verdict.Sound ⌝ }
+    ensures { λ r. ⌜ r ≡ numbersWith (now (table .entry)) 0 ⌝ }
+{
+    let inputs = bytes::byte_at(table, INPUTS_AT);
+    Numbers {
+        k: CutSize {
+            leaves: table[K_AT],
+        },
+        inputs: inputs,
+        nodes: inputs + bytes::small_at(table, GATES_AT, form.width),
+        roots: 0,
     }
 }
 
 // What follows a sound head, into arrays that are long enough.
 fn read_body(
+    form: TableForm,
     table: &[u8],
-    fan: &mut [u16],
-    count: &mut [u8],
+    fanins: &mut [u16],
     rows: &mut [u64],
     outputs: &mut [u16],
 ) -> Reading
+    requires { ⌜ form ≡ formOf (now table) ⌝ }
     requires { ⌜ headVerdict (now table) ≡ Verdict.Sound ⌝ }
-    requires { ⌜ enough (arraysOf (now fan) (now count) (now rows) (now outputs)) ≡ true ⌝ }
-    ensures { λ r. ⌜ Reads (arraysOf (now (fan .entry)) (now (count .entry)) (now (rows .entry)) (now (outputs .entry))) (now (table .entry)) r (arraysOf (now (fan .exit)) (now (count .exit)) (now (rows .exit)) (now (outputs .exit))) ⌝ }
+    requires { ⌜ enough (arraysOf (now fanins) (now rows) (now outputs)) ≡ true ⌝ }
+    ensures { λ r. ⌜ Reads (arraysOf (now (fanins .entry)) (now (rows .entry)) (now (outputs .entry))) (now (table .entry)) r
+        (arraysOf (now (fanins .exit)) (now (rows .exit)) (now (outputs .exit))) ⌝ }
 {
-    let head = sound_head(table);
-    let inputs = head.inputs;
-    let nodes = inputs + head.gates;
-    filling::put_inputs(count, inputs);
-    let gates = filling::read_gates(table, head.k, inputs, nodes, fan, count, rows);
+    let head = sound_head(form, table);
+    filling::put_inputs(fanins, head.inputs);
+    let gates = filling::read_gates(form, head, table, fanins, rows);
     match gates {
         Ended::RefusedFor(r) => Reading::Refused(r),
         Ended::At(at) => {
-            let last = filling::read_outputs(table, at, nodes, outputs);
+            let last = filling::read_outputs(form, table, at, head.nodes, outputs);
             match last {
                 Ended::RefusedFor(r) => Reading::Refused(r),
-                Ended::At(number) => Reading::Whole(head, number),
+                Ended::At(number) => {
+                    let k = head.k;
+                    Reading::Whole(Numbers {
+                        k: k,
+                        inputs: head.inputs,
+                        nodes: head.nodes,
+                        roots: number,
+                    })
+                }
             }
         }
     }
 }
 
-// Reads a gate table in one pass. The arrays are lent for the largest table: six places a node for its fanins, one for their
-// number and one for its function table, at 192 nodes, and 64 outputs; longer ones serve too.
-pub fn read(
-    table: &[u8],
-    fan: &mut [u16],
-    count: &mut [u8],
-    rows: &mut [u64],
-    outputs: &mut [u16],
-) -> Reading
-    ensures { λ r. ⌜ Reads (arraysOf (now (fan .entry)) (now (count .entry)) (now (rows .entry)) (now (outputs .entry))) (now (table .entry)) r (arraysOf (now (fan .exit)) (now (count .exit)) (now (rows .exit)) (now (outputs .exit))) ⌝ }
+// Reads a gate table in one pass. The arrays are lent for the largest table: the places of its nodes' fanins, a function table a node,
+// and the outputs; longer ones serve too.
+pub fn read(table: &[u8], fanins: &mut [u16], rows: &mut [u64], outputs: &mut [u16]) -> Reading
+    ensures { λ r. ⌜ Reads (arraysOf (now (fanins .entry)) (now (rows .entry)) (now (outputs .entry))) (now (table .entry)) r
+        (arraysOf (now (fanins .exit)) (now (rows .exit)) (now (outputs .exit))) ⌝ }
 {
-    if fan.len() < 1152 {
-        return Reading::Lent;
+    if fanins.len() < MOST_PLACES {
+        return Reading::TooShort;
     }
-    if count.len() < 192 {
-        return Reading::Lent;
+    if rows.len() < MOST_NODES {
+        return Reading::TooShort;
     }
-    if rows.len() < 192 {
-        return Reading::Lent;
+    if outputs.len() < MOST_OUTPUTS {
+        return Reading::TooShort;
     }
-    if outputs.len() < 64 {
-        return Reading::Lent;
-    }
-    let ruled = fields::head_ruling(table);
+    let form = narrow_table();
+    let ruled = fields::head_ruling(form, table);
     match ruled {
         Verdict::Refused(r) => Reading::Refused(r),
-        Verdict::Sound => read_body(table, fan, count, rows, outputs),
+        Verdict::Sound => read_body(form, table, fanins, rows, outputs),
     }
 }

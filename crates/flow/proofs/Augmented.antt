@@ -1,6 +1,6 @@
 -- Augmenting: one step back from a loose node keeps a flow with one path more whose one start is loose, and the number of its in-state falls. Only
 -- links that were read are stored to: what is found earlier is as it was when the search ran.
-use Prim.Native.Nat.{ℕ, suc, _-_, _≤_, _<_}
+use Prim.Native.Nat.{ℕ, suc, _*_, _-_, _≤_, _<_}
 use native.Mathlib.Decide.{ℕ-discrete}
 use native.Mathlib.Omega.{arith}
 use mathlib.Core.Path.{_≡_, refl, sym, ap, subst, _∙_}
@@ -8,14 +8,19 @@ use mathlib.Core.Logic.{_⊎_, inl, inr, ⊎-elim}
 use mathlib.Core.List.{List, List·Memᴰ}
 use lib.ListN.{length}
 use Rattle.theory.specs.Net.{Net}
-use Rattle.drawing.specs.Table.{netIn}
-use Rattle.flow.specs.Numbers.{Upd}
+use Rattle.storage.specs.Drawings.{netIn}
+use Rattle.storage.specs.Entries.{Beyond, Upd, at}
+use Rattle.storage.specs.Roles.{areaIn, endsIn}
+use Rattle.storage.proofs.Clears.{beyond-same, beyond-then}
+use Rattle.flow.specs.Links.{nextIn, prevIn, insIn, outsIn, parentIn}
 use Rattle.flow.specs.Flow.{Linked, Carries, Open, WayIn, WayOut, Freed}
-use Rattle.flow.specs.Turns.{at, Ground, Searched}
+use Rattle.flow.specs.Cells.{CellIn, PathsKept, StatesKept}
+use Rattle.flow.specs.Turns.{Ground, Searched}
 use Rattle.flow.specs.Sweeps.{SearchAsked, EndFound}
-use Rattle.flow.specs.Augments.{FreeAsked, StepAsked, Stepped, FlowIn, startsOf, RoundAsked}
+use Rattle.flow.specs.Augments.{FreeAsked, StepAsked, Stepped, FreedIn, SteppedIn, FlowIn, startsOf, RoundAsked}
 use Rattle.flow.proofs.Links.{used-come, free-linked, free-starts, link-linked, link-starts, drop-linked, drop-starts}
 use Rattle.flow.proofs.Orders.{held-input}
+use Rattle.flow.proofs.Columns.{states-then}
 use Rattle.flow.proofs.Finding.{area-low}
 
 -- what is loose after freeing was found before
@@ -154,213 +159,213 @@ module _ {net : Net} {area : ℕ → ℕ} (below : (v : ℕ) → area v ≡ 1 �
         paths = o .paths;
       }
 
--- Over the arrays: a walk back from the end that the search of the links `old` found.
-pub record Augmenting (inputs nodes : ℕ) (fan count area ends ins outs parent : List ℕ) (total : ℕ) (next prev : List ℕ) (loose from : ℕ) : Type 0 where
+-- Over the array: a walk back from the end that the search of the links `old` found. Only next and prev were stored to since.
+pub record Augmenting (inputs nodes : ℕ) (fanins roles links₀ links : List ℕ) (loose from : ℕ) : Type 0 where
   pub old : List ℕ
   pub last : ℕ
-  pub searched : Searched inputs nodes fan count area old ins outs parent last
-  pub next-long : length next ≡ nodes
-  pub prev-long : length prev ≡ nodes
-  pub opened : Open (netIn inputs nodes fan count) (at area) (at ends) (at next) (at prev) total loose
-  pub found : 1 ≤ at ins loose
-  pub unread : (v : ℕ) → 1 ≤ at outs v → at outs v < at ins loose → at next v ≡ at old v
-  pub read : from ≡ at parent loose
+  pub searched : Searched inputs nodes fanins roles old last
+  pub kept : StatesKept nodes old links
+  pub rest : Beyond (5 * nodes) links₀ links
+  pub opened : Open (netIn inputs nodes fanins) (at (areaIn roles)) (at (endsIn roles)) (at (nextIn nodes links)) (at (prevIn nodes links))
+      (startsOf nodes links₀) loose
+  pub found : 1 ≤ at (insIn nodes old) loose
+  pub unread : (v : ℕ) → 1 ≤ at (outsIn nodes old) v → at (outsIn nodes old) v < at (insIn nodes old) loose →
+      at (nextIn nodes links) v ≡ at (nextIn nodes old) v
+  pub read : from ≡ at (parentIn nodes old) loose
 
-module _ {inputs nodes : ℕ} {fan count area : List ℕ} (ground : Ground inputs nodes fan count area) where
-  below : (v : ℕ) → at area v ≡ 1 → v < netIn inputs nodes fan count .nodes
+module _ {inputs nodes : ℕ} {fanins roles : List ℕ} (ground : Ground inputs nodes fanins roles) where
+  below : (v : ℕ) → at (areaIn roles) v ≡ 1 → v < netIn inputs nodes fanins .nodes
   unfolding netIn
   below = area-low ground
 
-  flow-leads : {next prev : ℕ → ℕ} → Linked (netIn inputs nodes fan count) (at area) next prev → (v g : ℕ) → next v ≡ suc (suc g) → g < nodes
+  flow-leads : {next prev : ℕ → ℕ} → Linked (netIn inputs nodes fanins) (at (areaIn roles)) next prev → (v g : ℕ) → next v ≡ suc (suc g) → g < nodes
   unfolding netIn
   flow-leads l v g e = links-lead below l v g e
 
-  free-asked : {next prev : List ℕ} {v : ℕ} → Linked (netIn inputs nodes fan count) (at area) (at next) (at prev) → length next ≡ nodes → length prev ≡ nodes →
-      at area v ≡ 1 → (at next v ≡ 1 → ⊥) → FreeAsked next prev v
-  free-asked {v = v} l next-long prev-long inside no-sink =
-      let low = area-low ground v inside in
+  free-asked : {links : List ℕ} {v : ℕ} → Linked (netIn inputs nodes fanins) (at (areaIn roles)) (at (nextIn nodes links)) (at (prevIn nodes links)) →
+      5 * nodes ≤ length links → at (areaIn roles) v ≡ 1 → (at (nextIn nodes links) v ≡ 1 → ⊥) → FreeAsked nodes links v
+  free-asked {v = v} l long inside no-sink =
+      record { small = ground .small; long = long; node = area-low ground v inside; no-sink = no-sink; leads = λ g e. flow-leads l v g e }
+
+  -- the parent of a state that was found can be read
+  found-cell : {old links : List ℕ} {last v : ℕ} → Searched inputs nodes fanins roles old last → StatesKept nodes old links → 1 ≤ at (insIn nodes old) v →
+      CellIn nodes 4 v links
+  found-cell {v = v} s kept found =
       record {
-        next-low = omega arith;
-        prev-low = omega arith;
-        no-sink = no-sink;
-        leads = λ g e. let less = flow-leads l v g e in omega arith;
+        small = ground .small;
+        long = omega (arith, s .long, kept .rest .size);
+        one-of-five = omega arith;
+        node = area-low ground v (s .found .in-area v found);
       }
 
   -- Where the walk starts
 
-  module _ {ends next prev ins outs parent : List ℕ} {number v : ℕ} (flow : FlowIn inputs nodes fan count area ends next prev number)
-      (end : EndFound inputs nodes fan count area ends next ins outs parent v) where
-    end-inside : at area v ≡ 1
+  module _ {links : List ℕ} {number v : ℕ} (flow : FlowIn inputs nodes fanins roles links number) (end : EndFound inputs nodes fanins roles links v) where
+    end-inside : at (areaIn roles) v ≡ 1
     end-inside = end .searched .found .out-area v (end .reached)
 
-    end-way : WayOut (at next) (at ins) v (at outs v)
+    end-way : WayOut (at (nextIn nodes links)) (at (insIn nodes links)) v (at (outsIn nodes links) v)
     end-way = end .searched .found .out-way v (end .reached)
 
-    pub augment-asked : FreeAsked next prev v
-    augment-asked = free-asked (flow .carries .linked) (flow .next-long) (flow .prev-long) end-inside (out-no-sink end-way)
+    pub augment-asked : FreeAsked nodes links v
+    augment-asked = free-asked (flow .carries .linked) (flow .long) end-inside (out-no-sink end-way)
 
-    pub augment-starts : {next′ prev′ : List ℕ} {loose from : ℕ} → Freed (at next) (at prev) v loose (at next′) (at prev′) → length next′ ≡ length next →
-        length prev′ ≡ length prev → from ≡ at parent loose → Augmenting inputs nodes fan count area ends ins outs parent (startsOf nodes prev′) next′ prev′ loose from
-    unfolding netIn
-    augment-starts {loose = loose} f next-same prev-same read =
-        let found = freed-found end-way (f .freed) in
-        let o = open-start below (flow .carries) end-inside (end .is-end) f in
-        record {
-          old = next;
-          last = end .last;
-          searched = end .searched;
-          next-long = next-same ∙ flow .next-long;
-          prev-long = prev-same ∙ flow .prev-long;
-          opened = record {
-            linked = o .linked;
-            stops = o .stops;
-            starts = o .starts;
-            loosened = o .loosened;
-            paths = refl;
-          };
-          found = found .0;
-          unread = λ w some less. f .out .there w (λ same. omega (arith, found .1, ap (at outs) same));
-          read = read;
-        }
+    module _ {links′ : List ℕ} {loose : ℕ} (f : FreedIn nodes links v loose links′) where
+      found-loose : (1 ≤ at (insIn nodes links) loose) × (at (insIn nodes links) loose < at (outsIn nodes links) v)
+      found-loose = freed-found end-way (f .stored .freed)
 
-    pub start-known : {loose : ℕ} {after come : ℕ → ℕ} → Freed (at next) (at prev) v loose after come → loose < length parent
-    start-known {loose} f =
-        let s = end .searched in
-        let found = freed-found end-way (f .freed) in
-        omega (arith, s .parent-long, area-low ground loose (s .found .in-area loose (found .0)))
+      pub augment-adds : startsOf nodes links′ ≡ suc number
+      unfolding netIn
+      augment-adds = open-start below (flow .carries) end-inside (end .is-end) (f .stored) .paths
 
-    pub augment-adds : (next′ prev′ : List ℕ) {loose : ℕ} → Freed (at next) (at prev) v loose (at next′) (at prev′) → startsOf nodes prev′ ≡ suc number
-    unfolding netIn
-    augment-adds next′ prev′ f = open-start below (flow .carries) end-inside (end .is-end) f .paths
+      pub start-cell : CellIn nodes 4 loose links′
+      start-cell = found-cell (end .searched) (f .kept) (found-loose .0)
+
+      pub augment-starts : {from : ℕ} → from ≡ at (parentIn nodes links′) loose → Augmenting inputs nodes fanins roles links′ links′ loose from
+      unfolding netIn
+      augment-starts read =
+          let o = open-start below (flow .carries) end-inside (end .is-end) (f .stored) in
+          record {
+            old = links;
+            last = end .last;
+            searched = end .searched;
+            kept = f .kept;
+            rest = beyond-same (5 * nodes) links′;
+            opened = record { linked = o .linked; stops = o .stops; starts = o .starts; loosened = o .loosened; paths = refl };
+            found = found-loose .0;
+            unread = λ w some less. f .stored .out .there w (λ same. omega (arith, found-loose .1, ap (at (outsIn nodes links)) same));
+            read = read ∙ ap (λ (l : List ℕ). at l loose) (f .kept .parent);
+          }
 
   -- One step
 
-  module _ {ends ins outs parent next prev : List ℕ} {total loose from : ℕ}
-      (a : Augmenting inputs nodes fan count area ends ins outs parent total next prev loose from) where
-    pub loose-used : loose < nodes
-    unfolding netIn
-    loose-used = area-low ground loose (a .searched .found .in-area loose (a .found))
+  module _ {links₀ links : List ℕ} {loose from : ℕ} (a : Augmenting inputs nodes fanins roles links₀ links loose from) where
+    abbrev next : ℕ → ℕ
+    next = at (nextIn nodes links)
 
-    way : WayIn inputs (netIn inputs nodes fan count .fanins loose) (at (a .old)) (at outs) loose from (at ins loose)
+    abbrev was : ℕ → ℕ
+    was = at (nextIn nodes (a .old))
+
+    abbrev ins : ℕ → ℕ
+    ins = at (insIn nodes (a .old))
+
+    abbrev outs : ℕ → ℕ
+    outs = at (outsIn nodes (a .old))
+
+    loose-here : loose < nodes
+    loose-here = area-low ground loose (a .searched .found .in-area loose (a .found))
+
+    way : WayIn inputs (netIn inputs nodes fanins .fanins loose) was outs loose from (ins loose)
     unfolding netIn
-    way = subst (λ (p : ℕ). WayIn inputs (netIn inputs nodes fan count .fanins loose) (at (a .old)) (at outs) loose p (at ins loose)) (sym (a .read))
+    way = subst (λ (p : ℕ). WayIn inputs (netIn inputs nodes fanins .fanins loose) was outs loose p (ins loose)) (sym (a .read))
         (a .searched .found .in-way loose (a .found))
 
     -- where the walk goes on: v's out-state was found before
     record Goes (v : ℕ) : Type 0 where
-      out : 1 ≤ at outs v
-      less : at outs v < at ins loose
-      feeds : (v ≡ loose → ⊥) → List·Memᴰ v (netIn inputs nodes fan count .fanins loose)
+      out : 1 ≤ outs v
+      less : outs v < ins loose
+      feeds : (v ≡ loose → ⊥) → List·Memᴰ v (netIn inputs nodes fanins .fanins loose)
 
-    goes-by : {v : ℕ} → from ≡ suc (suc v) →
-        WayIn inputs (netIn inputs nodes fan count .fanins loose) (at (a .old)) (at outs) loose from (at ins loose) → Goes v
+    goes-by : {v : ℕ} → from ≡ suc (suc v) → WayIn inputs (netIn inputs nodes fanins .fanins loose) was outs loose from (ins loose) → Goes v
     goes-by e (WayIn.source low f) = absurd (omega arith)
     goes-by {v} e (WayIn.own f used out less) =
         let same : v ≡ loose = omega arith in
-        record { out = omega (arith, ap (at outs) same); less = omega (arith, ap (at outs) same); feeds = λ apart. absurd (apart same) }
+        record { out = omega (arith, ap outs same); less = omega (arith, ap outs same); feeds = λ apart. absurd (apart same) }
     goes-by {v} e (WayIn.fanin u f feeds out less) =
         let same : u ≡ v = omega arith in
         record {
-          out = omega (arith, ap (at outs) same);
-          less = omega (arith, ap (at outs) same);
-          feeds = λ apart. subst (λ (w : ℕ). List·Memᴰ w (netIn inputs nodes fan count .fanins loose)) same feeds;
-        }
-
-    goes : {v : ℕ} → from ≡ suc (suc v) → Goes v
-    goes e = goes-by e way
-
-    step-inside : {v : ℕ} → from ≡ suc (suc v) → at area v ≡ 1
-    step-inside {v} e = a .searched .found .out-area v (goes e .out)
-
-    -- v's link is as the search read it
-    step-way : {v : ℕ} → from ≡ suc (suc v) → WayOut (at next) (at ins) v (at outs v)
-    step-way {v} e = now (a .searched .found .out-way v (goes e .out))
-      where
-        same : at next v ≡ at (a .old) v
-        same = a .unread v (goes e .out) (goes e .less)
-
-        now : WayOut (at (a .old)) (at ins) v (at outs v) → WayOut (at next) (at ins) v (at outs v)
-        now (WayOut.through f some less) = WayOut.through (same ∙ f) some less
-        now (WayOut.back g f some less) = WayOut.back g (same ∙ f) some less
-
-    pub step-asked : {v : ℕ} → from ≡ suc (suc v) → StepAsked next prev loose v
-    step-asked {v} e =
-        let low = loose-used in
-        record {
-          free = free-asked (a .opened .linked) (a .next-long) (a .prev-long) (step-inside e) (out-no-sink (step-way e));
-          loose-next = omega (arith, a .next-long);
-          loose-prev = omega (arith, a .prev-long);
-          small = omega (arith, a .next-long, ground .small);
+          out = omega (arith, ap outs same);
+          less = omega (arith, ap outs same);
+          feeds = λ apart. subst (λ (w : ℕ). List·Memᴰ w (netIn inputs nodes fanins .fanins loose)) same feeds;
         }
 
     -- a parent that is not the source is a node's out-state
-    pub parent-node : (from ≡ 1 → ⊥) → 2 ≤ from
+    pub parent-node : (from ≡ 1 → ⊥) → from ≡ suc (suc (from - 2))
     parent-node apart = by-way way
       where
-        by-way : WayIn inputs (netIn inputs nodes fan count .fanins loose) (at (a .old)) (at outs) loose from (at ins loose) → 2 ≤ from
+        by-way : WayIn inputs (netIn inputs nodes fanins .fanins loose) was outs loose from (ins loose) → from ≡ suc (suc (from - 2))
         by-way (WayIn.source low e) = absurd (apart e)
         by-way (WayIn.own e _ _ _) = omega arith
         by-way (WayIn.fanin u e _ _ _) = omega arith
 
-    loose-goes : {v : ℕ} → (v ≡ loose → ⊥) ⊎ (1 ≤ at next v)
+    loose-goes : {v : ℕ} → (v ≡ loose → ⊥) ⊎ (1 ≤ next v)
     loose-goes {v} = by-place (ℕ-discrete v loose)
       where
-        by-place : Dec (v ≡ loose) → (v ≡ loose → ⊥) ⊎ (1 ≤ at next v)
+        by-place : Dec (v ≡ loose) → (v ≡ loose → ⊥) ⊎ (1 ≤ next v)
         by-place (no apart) = inl apart
-        by-place (yes same) =
-            let used = used-come (a .opened .linked) {v = loose} (omega (arith, a .opened .loosened)) in inr (omega (arith, ap (at next) same))
+        by-place (yes same) = let used = used-come (a .opened .linked) {v = loose} (omega (arith, a .opened .loosened)) in inr (omega (arith, ap next same))
 
-    module _ {v r : ℕ} {after come : ℕ → ℕ} (e : from ≡ suc (suc v)) (s : Stepped (at next) (at prev) loose v r after come) where
-      step-found : (1 ≤ at ins r) × (at ins r < at outs v)
-      step-found = freed-found (step-way e) (step-freed s)
+    module _ {v : ℕ} (e : from ≡ suc (suc v)) where
+      goes : Goes v
+      goes = goes-by e way
 
-      pub step-falls : at ins r < at ins loose
-      step-falls = let before = step-found in let less = goes e .less in omega arith
+      step-inside : at (areaIn roles) v ≡ 1
+      step-inside = a .searched .found .out-area v (goes .out)
 
-      pub step-known : r < length parent
-      step-known = omega (arith, a .searched .parent-long, area-low ground r (a .searched .found .in-area r (step-found .0)))
+      -- v's link is as the search read it
+      step-way : WayOut next ins v (outs v)
+      step-way = now (a .searched .found .out-way v (goes .out))
+        where
+          same : next v ≡ was v
+          same = a .unread v (goes .out) (goes .less)
 
-    pub augment-step : {next′ prev′ : List ℕ} {v r from′ : ℕ} → from ≡ suc (suc v) → Stepped (at next) (at prev) loose v r (at next′) (at prev′) →
-        length next′ ≡ length next → length prev′ ≡ length prev → from′ ≡ at parent r →
-        Augmenting inputs nodes fan count area ends ins outs parent total next′ prev′ r from′
-    augment-step e s next-same prev-same read =
-        let before = step-found e s in
-        let less = goes e .less in
-        record {
-          old = a .old;
-          last = a .last;
-          searched = a .searched;
-          next-long = next-same ∙ a .next-long;
-          prev-long = prev-same ∙ a .prev-long;
-          opened = open-step below (a .opened) (step-inside e) loose-goes (goes e .feeds) s;
-          found = before .0;
-          unread = λ w some early.
-              step-others s w (λ same. omega (arith, ap (at outs) same)) ∙ a .unread w some (omega arith);
-          read = read;
-        }
+          now : WayOut was ins v (outs v) → WayOut next ins v (outs v)
+          now (WayOut.through f some less) = WayOut.through (same ∙ f) some less
+          now (WayOut.back g f some less) = WayOut.back g (same ∙ f) some less
+
+      pub step-asked : StepAsked nodes links loose v
+      step-asked =
+          record {
+            free = free-asked (a .opened .linked) (omega (arith, a .searched .long, a .kept .rest .size)) step-inside (out-no-sink step-way);
+            loose-node = loose-here;
+          }
+
+      module _ {links′ : List ℕ} {r : ℕ} (s : SteppedIn nodes links loose v r links′) where
+        step-found : (1 ≤ ins r) × (ins r < outs v)
+        step-found = freed-found step-way (step-freed (s .stored))
+
+        pub step-falls : at (insIn nodes links′) r < at (insIn nodes links) loose
+        step-falls =
+            let before = step-found in
+            let less = goes .less in
+            omega (arith, ap (λ (l : List ℕ). at l r) (s .kept .ins ∙ a .kept .ins), ap (λ (l : List ℕ). at l loose) (a .kept .ins))
+
+        pub step-cell : CellIn nodes 4 r links′
+        step-cell = found-cell (a .searched) (states-then (a .kept) (s .kept)) (step-found .0)
+
+        pub augment-step : {from′ : ℕ} → from′ ≡ at (parentIn nodes links′) r → Augmenting inputs nodes fanins roles links₀ links′ r from′
+        augment-step read =
+            let before = step-found in
+            let less = goes .less in
+            record {
+              old = a .old;
+              last = a .last;
+              searched = a .searched;
+              kept = states-then (a .kept) (s .kept);
+              rest = beyond-then (a .rest) (s .kept .rest);
+              opened = open-step below (a .opened) step-inside loose-goes (goes .feeds) (s .stored);
+              found = before .0;
+              unread = λ w some early. step-others (s .stored) w (λ same. omega (arith, ap outs same)) ∙ a .unread w some (omega arith);
+              read = read ∙ ap (λ (l : List ℕ). at l r) (s .kept .parent ∙ a .kept .parent);
+            }
 
     -- Where it ends
 
-    pub augment-ends : from ≡ 1 → FlowIn inputs nodes fan count area ends next prev total
-    augment-ends e = record { next-long = a .next-long; prev-long = a .prev-long; carries = open-closed below (a .opened) (by-way way) }
+    pub augment-ends : from ≡ 1 → FlowIn inputs nodes fanins roles links (startsOf nodes links₀)
+    augment-ends e = record { long = omega (arith, a .searched .long, a .kept .rest .size); carries = open-closed below (a .opened) (by-way way) }
       where
-        by-way : WayIn inputs (netIn inputs nodes fan count .fanins loose) (at (a .old)) (at outs) loose from (at ins loose) →
-            loose < netIn inputs nodes fan count .inputs
-        by-way (WayIn.source low _) = held-input inputs nodes fan count low
+        by-way : WayIn inputs (netIn inputs nodes fanins .fanins loose) was outs loose from (ins loose) → loose < netIn inputs nodes fanins .inputs
+        by-way (WayIn.source low _) = held-input inputs nodes fanins low
         by-way (WayIn.own f _ _ _) = absurd (omega arith)
         by-way (WayIn.fanin u f _ _ _) = absurd (omega arith)
 
--- A round's search can be asked for
+-- A round's search can be asked for, and leaves the flow as it was
 
-pub round-search : {inputs nodes : ℕ} {fan count order area ends next prev ins outs parent : List ℕ} →
-    RoundAsked inputs nodes fan count order area ends next prev ins outs parent →
-    SearchAsked inputs nodes fan count order area ends next ins outs parent
+pub round-search : {inputs nodes : ℕ} {fanins order roles links : List ℕ} → RoundAsked inputs nodes fanins order roles links →
+    SearchAsked inputs nodes fanins order roles links
 round-search asked =
-    record {
-      field = asked .field;
-      next-long = asked .flow .next-long;
-      in-long = asked .in-long;
-      out-long = asked .out-long;
-      parent-long = asked .parent-long;
-      leads = flow-leads (asked .field .ground) (asked .flow .carries .linked);
-    }
+    record { field = asked .field; long = asked .flow .long; leads = flow-leads (asked .field .ground) (asked .flow .carries .linked) }
+
+pub flow-kept : {inputs nodes : ℕ} {fanins roles links links′ : List ℕ} {number : ℕ} → FlowIn inputs nodes fanins roles links number →
+    PathsKept nodes links links′ → FlowIn inputs nodes fanins roles links′ number
+flow-kept flow kept = record { long = omega (arith, flow .long, kept .rest .size); carries = rw (kept .next, kept .prev) (flow .carries) }

@@ -1,21 +1,29 @@
 -- The search's invariant: a state that is found by some way gets the next number. Each state has one number, so there are at most twice as many numbers
 -- as nodes, and the search ends.
-use Prim.Native.Nat.{ℕ, zero, suc, _+_, _*_, _≤_, _<_}
+use Prim.Native.Nat.{ℕ, zero, suc, _*_, _≤_, _<_}
 use native.Mathlib.Decide.{ℕ-discrete, decLt}
 use native.Mathlib.Omega.{arith}
 use mathlib.Core.Path.{_≡_, refl, sym, ap, subst, subst₂, _∙_}
 use mathlib.Core.Bool.{Bool, true}
-use mathlib.Core.Logic.{_⊎_, ⊎-elim}
-use mathlib.Core.List.{List}
-use lib.ListN.{length, getD, length-set, List·getD-eq-default}
+use mathlib.Core.Logic.{_⊎_, inl, inr}
+use mathlib.Core.List.{List, List·Memᴰ}
+use lib.ListN.{List·getD-eq-default}
 use Rattle.theory.specs.Net.{Net}
-use Rattle.drawing.specs.Table.{netIn}
-use Rattle.flow.specs.Numbers.{sum, Upd}
+use Rattle.storage.specs.Drawings.{netIn}
+use Rattle.storage.specs.Entries.{Upd, at}
+use Rattle.storage.specs.Roles.{areaBit, areaIn}
+use Rattle.storage.proofs.Drawings.{fanins-in, fanin-low}
+use Rattle.storage.proofs.Views.{view-size}
+use Rattle.storage.proofs.Stores.{upd-then, upd-after}
+use Rattle.flow.specs.Numbers.{sum}
+use Rattle.flow.specs.Links.{nextIn, insIn, outsIn, parentIn}
 use Rattle.flow.specs.Flow.{sign, WayIn, WayOut, Found, Calm}
-use Rattle.flow.specs.Turns.{at, Ground, Fed, VisitInAsked, VisitOutAsked, NoWayIn, NoWayOut, Entered, Left, VisitedIn, VisitedOut, Searched, Visited}
-use Rattle.flow.proofs.Stores.{set-upd}
+use Rattle.flow.specs.Cells.{PathsKept}
+use Rattle.flow.specs.Turns.{Ground, EnterAsked, LeaveAsked, Searched, Visited}
+use Rattle.flow.specs.Turns.{NoWayIn, NoWayOut, Entered, Left, VisitedIn, InputEntered, VisitedOut, InputVisited}
 use Rattle.flow.proofs.Sums.{sum-zero, sum-more}
-use Rattle.flow.proofs.Orders.{fanin-there, fanin-place, fanin-low, inputs-held, nodes-room}
+use Rattle.flow.proofs.Orders.{inputs-held, nodes-room}
+use Rattle.flow.proofs.Columns.{paths-same, paths-then, paths-stored}
 
 sign-most : (c : ℕ) → sign c ≤ 1
 sign-most zero = omega arith
@@ -135,175 +143,174 @@ none-found {net} {found-in = found-in} {found-out = found-out} no-in no-out =
 
 -- One node's visit
 
-module _ {inputs nodes : ℕ} {fan count area : List ℕ} (ground : Ground inputs nodes fan count area) where
-  pub area-low : (v : ℕ) → at area v ≡ 1 → v < nodes
-  area-low v inside = by-place (decLt v (length area))
-    where
-      by-place : Dec (v < length area) → v < nodes
-      by-place (yes low) = omega (arith, ground .area-long)
-      by-place (no high) = absurd (omega (arith, List·getD-eq-default area 0 {n = v} (omega arith)))
+first-of : {A B : Type 0} → A ⊎ B → (B → ⊥) → A
+first-of (inl a) not-b = a
+first-of (inr b) not-b = absurd (not-b b)
 
-  module _ {next found-in found-out parent : List ℕ} {last : ℕ} (s : Searched inputs nodes fan count area next found-in found-out parent last) {v : ℕ}
-      (inside : at area v ≡ 1) where
+module _ {inputs nodes : ℕ} {fanins roles : List ℕ} (ground : Ground inputs nodes fanins roles) where
+  pub area-low : (v : ℕ) → at (areaIn roles) v ≡ 1 → v < nodes
+  area-low v inside = by-place (decLt v nodes)
+    where
+      by-place : Dec (v < nodes) → v < nodes
+      by-place (yes low) = low
+      by-place (no high) =
+          absurd (omega (arith, List·getD-eq-default (areaIn roles) 0 {n = v} (omega (arith, view-size areaBit roles, ground .roles-long))))
+
+  module _ {links : List ℕ} {last : ℕ} (s : Searched inputs nodes fanins roles links last) {v : ℕ} (inside : at (areaIn roles) v ≡ 1) where
     low-node : v < nodes
     low-node = area-low v inside
 
-    entered-way : {from : ℕ} → (from ≡ 0 → ⊥) → Entered inputs fan count next found-out v from →
-        WayIn inputs (netIn inputs nodes fan count .fanins v) (at next) (at found-out) v from (suc last)
+    entered-way : {from : ℕ} → (from ≡ 0 → ⊥) → Entered inputs fanins (nextIn nodes links) (outsIn nodes links) v from →
+        WayIn inputs (netIn inputs nodes fanins .fanins v) (at (nextIn nodes links)) (at (outsIn nodes links)) v from (suc last)
     entered-way some (Entered.none e _) = absurd (some e)
     entered-way some (Entered.source e low) = WayIn.source low e
     entered-way some (Entered.own e used out) = WayIn.own e used out (omega (arith, s .found .out-most v))
-    entered-way some (Entered.fanin i e short out) =
-        WayIn.fanin (getD fan (6 * v + i) 0) e (fanin-there inputs nodes fan count (ground .drawn) v i low-node short) out
-        (omega (arith, s .found .out-most (getD fan (6 * v + i) 0)))
+    entered-way some (Entered.fanin u e feeds out) =
+        WayIn.fanin u e (subst (List·Memᴰ u) (sym (fanins-in inputs nodes fanins v low-node)) feeds) out (omega (arith, s .found .out-most u))
 
-    pub visit-in : {r : ℕ} {found-in′ parent′ : List ℕ} → VisitedIn inputs fan count next found-out v last found-in parent r found-in′ parent′ →
-        Searched inputs nodes fan count area next found-in′ found-out parent′ r
+    pub visit-in : {r : ℕ} {links′ : List ℕ} → VisitedIn inputs nodes fanins links v last r links′ → Searched inputs nodes fanins roles links′ r
     unfolding netIn
-    visit-in (VisitedIn.stays e same alike _) =
-        subst (Searched inputs nodes fan count area next _ found-out _) (sym e)
-        (subst₂ (λ (a b : List ℕ). Searched inputs nodes fan count area next a found-out b last) (sym same) (sym alike) s)
-    visit-in (VisitedIn.new from e none some way same alike) =
-        subst (Searched inputs nodes fan count area next _ found-out _) (sym e)
-        (subst₂ (λ (a b : List ℕ). Searched inputs nodes fan count area next a found-out b (suc last)) (sym same) (sym alike)
-        record {
-          next-long = s .next-long;
-          in-long = simp length-set (s .in-long);
-          out-long = s .out-long;
-          parent-long = simp length-set (s .parent-long);
-          leads = s .leads;
-          found = mark-in (s .found) low-node none inside (entered-way some way) (set-upd found-in v (suc last) (omega (arith, low-node, s .in-long)))
-              (set-upd parent v from (omega (arith, low-node, s .parent-long)));
+    visit-in (VisitedIn.stays e same _) = subst₂ (Searched inputs nodes fanins roles) (sym same) (sym e) s
+    visit-in {links′ = links′} (VisitedIn.new from between e none some way into parent) =
+        let next-same : nextIn nodes links′ ≡ nextIn nodes links = parent .others 0 (λ z. omega arith) ∙ into .others 0 (λ z. omega arith) in
+        let out-same : outsIn nodes links′ ≡ outsIn nodes links = parent .others 3 (λ z. omega arith) ∙ into .others 3 (λ z. omega arith) in
+        subst (Searched inputs nodes fanins roles links′) (sym e)
+        (record {
+          long = omega (arith, s .long, into .rest .size, parent .rest .size);
+          leads = rw next-same (s .leads);
+          found = rw (next-same, out-same)
+              (mark-in (s .found) low-node none inside (entered-way some way) (upd-then (into .stored) (parent .others 2 (λ z. omega arith)))
+              (upd-after (into .others 4 (λ z. omega arith)) (parent .stored)));
         })
 
-    left-way : {b : Bool} → b ≡ true → Left next found-in v b → WayOut (at next) (at found-in) v (suc last)
+    left-way : {b : Bool} → b ≡ true → Left (nextIn nodes links) (insIn nodes links) v b → WayOut (at (nextIn nodes links)) (at (insIn nodes links)) v (suc last)
     left-way yes-it-is (Left.none e _) = absurd (let w : _≡_ {A = ℕ} 0 1 = cc in omega arith)
     left-way _ (Left.through _ idle some) = WayOut.through idle some (omega (arith, s .found .in-most v))
     left-way _ (Left.back g _ e some) = WayOut.back g e some (omega (arith, s .found .in-most g))
 
-    visit-out : {r : ℕ} {found-out′ : List ℕ} → VisitedOut next found-in v last found-out r found-out′ →
-        Searched inputs nodes fan count area next found-in found-out′ parent r
+    visit-out : {r : ℕ} {links′ : List ℕ} → VisitedOut nodes links v last r links′ → Searched inputs nodes fanins roles links′ r
     unfolding netIn
-    visit-out (VisitedOut.stays e same _) =
-        subst₂ (λ (a : List ℕ) (m : ℕ). Searched inputs nodes fan count area next found-in a parent m) (sym same) (sym e) s
-    visit-out (VisitedOut.new e none way same) =
-        subst₂ (λ (a : List ℕ) (m : ℕ). Searched inputs nodes fan count area next found-in a parent m) (sym same) (sym e)
-        record {
-          next-long = s .next-long;
-          in-long = s .in-long;
-          out-long = simp length-set (s .out-long);
-          parent-long = s .parent-long;
-          leads = s .leads;
-          found = mark-out (s .found) low-node none inside (left-way refl way) (set-upd found-out v (suc last) (omega (arith, low-node, s .out-long)));
-        }
+    visit-out (VisitedOut.stays e same _) = subst₂ (Searched inputs nodes fanins roles) (sym same) (sym e) s
+    visit-out {links′ = links′} (VisitedOut.new e none way out) =
+        let next-same : nextIn nodes links′ ≡ nextIn nodes links = out .others 0 (λ z. omega arith) in
+        let in-same : insIn nodes links′ ≡ insIn nodes links = out .others 2 (λ z. omega arith) in
+        let parent-same : parentIn nodes links′ ≡ parentIn nodes links = out .others 4 (λ z. omega arith) in
+        subst (Searched inputs nodes fanins roles links′) (sym e)
+        (record {
+          long = omega (arith, s .long, out .rest .size);
+          leads = rw next-same (s .leads);
+          found = rw (next-same, in-same, parent-same) (mark-out (s .found) low-node none inside (left-way refl way) (out .stored));
+        })
 
     -- where neither state was numbered, nothing more is reached
-    no-ways-calm : (1 ≤ at found-in v) ⊎ NoWayIn inputs fan count next found-out v → (1 ≤ at found-out v) ⊎ NoWayOut next found-in v →
-        Calm (netIn inputs nodes fan count) (at next) (at found-in) (at found-out) v
+    no-ways-calm : (1 ≤ at (insIn nodes links) v) ⊎ NoWayIn inputs fanins (nextIn nodes links) (outsIn nodes links) v →
+        (1 ≤ at (outsIn nodes links) v) ⊎ NoWayOut (nextIn nodes links) (insIn nodes links) v →
+        Calm (netIn inputs nodes fanins) (at (nextIn nodes links)) (at (insIn nodes links)) (at (outsIn nodes links)) v
     no-ways-calm into out =
         record {
-          source = λ low. ⊎-elim (λ some. some) (λ (n : NoWayIn inputs fan count next found-out v). absurd (n .source (held low))) into;
-          fanin = λ u feeds found. ⊎-elim (λ some. some) (λ (n : NoWayIn inputs fan count next found-out v).
-              let (i, short, e) = fanin-place inputs nodes fan count (ground .drawn) v low-node feeds in
-              absurd (omega (arith, n .fanin i short, ap (at found-out) e))) into;
-          own = λ used found. ⊎-elim (λ some. some) (λ (n : NoWayIn inputs fan count next found-out v). absurd (omega (arith, n .own used))) into;
-          through = λ idle found. ⊎-elim (λ some. some) (λ (n : NoWayOut next found-in v). absurd (omega (arith, n .through idle))) out;
-          back = λ g e found. ⊎-elim (λ some. some) (λ (n : NoWayOut next found-in v). absurd (omega (arith, n .back g e))) out;
+          source = λ low. first-of into (λ n. n .source (inputs-held inputs nodes fanins low));
+          fanin = λ u feeds found. first-of into (λ n. omega (arith, n .fanin u (subst (List·Memᴰ u) (fanins-in inputs nodes fanins v low-node) feeds)));
+          own = λ used found. first-of into (λ n. omega (arith, n .own used));
+          through = λ idle found. first-of out (λ n. omega (arith, n .through idle));
+          back = λ g e found. first-of out (λ n. omega (arith, n .back g e));
         }
-      where
-        held : v < netIn inputs nodes fan count .inputs → v < inputs
-        held low = inputs-held inputs nodes fan count low
 
-  module _ {next found-in found-out parent : List ℕ} {number : ℕ} (s : Searched inputs nodes fan count area next found-in found-out parent number) {v : ℕ} where
-    pub visit-none : (at area v ≡ 1 → ⊥) → Visited inputs nodes fan count area next v number found-in found-out number found-in found-out parent
+  -- What a visit leaves as it was
+
+  in-kept : {links links′ : List ℕ} {v number r : ℕ} → VisitedIn inputs nodes fanins links v number r links′ → PathsKept nodes links links′
+  in-kept {links} (VisitedIn.stays _ same _) = subst (PathsKept nodes links) (sym same) (paths-same nodes links)
+  in-kept (VisitedIn.new _ _ _ _ _ _ into parent) = paths-then (paths-stored (omega arith) into) (paths-stored (omega arith) parent)
+
+  out-kept : {links links′ : List ℕ} {v number r : ℕ} → VisitedOut nodes links v number r links′ → PathsKept nodes links links′
+  out-kept {links} (VisitedOut.stays _ same _) = subst (PathsKept nodes links) (sym same) (paths-same nodes links)
+  out-kept (VisitedOut.new _ _ _ out) = paths-stored (omega arith) out
+
+  later : {links links′ : List ℕ} {v number r : ℕ} → VisitedOut nodes links v number r links′ → number ≤ r
+  later (VisitedOut.stays e _ _) = omega arith
+  later (VisitedOut.new e _ _ _) = omega arith
+
+  module _ {links : List ℕ} {number : ℕ} (s : Searched inputs nodes fanins roles links number) {v : ℕ} where
+    pub visit-none : (at (areaIn roles) v ≡ 1 → ⊥) → Visited inputs nodes fanins roles links v number number links
     visit-none outside =
         record {
           searched = s;
           onward = omega arith;
-          same-in = λ _. refl;
-          same-out = λ _. refl;
+          same = λ _. refl;
           calm = λ _ inside. absurd (outside inside);
+          kept = paths-same nodes links;
         }
 
-    pub visit-both : {r q : ℕ} {found-in′ found-out′ parent′ : List ℕ} → at area v ≡ 1 →
-        VisitedIn inputs fan count next found-out v number found-in parent r found-in′ parent′ → VisitedOut next found-in′ v r found-out q found-out′ →
-        Visited inputs nodes fan count area next v number found-in found-out q found-in′ found-out′ parent′
-    visit-both inside (VisitedIn.stays e same alike into) (VisitedOut.stays f kept out) =
+    pub visit-both : {r q : ℕ} {between links′ : List ℕ} → at (areaIn roles) v ≡ 1 → VisitedIn inputs nodes fanins links v number r between →
+        VisitedOut nodes between v r q links′ → Visited inputs nodes fanins roles links v number q links′
+    visit-both {links′ = links′} inside (VisitedIn.stays e same into) (VisitedOut.stays f kept out) =
+        let whole : links′ ≡ links = kept ∙ same in
         record {
-          searched = visit-out (visit-in s inside (VisitedIn.stays e same alike into)) inside (VisitedOut.stays f kept out);
+          searched = visit-out (visit-in s inside (VisitedIn.stays e same into)) inside (VisitedOut.stays f kept out);
           onward = omega arith;
-          same-in = λ _. same;
-          same-out = λ _. kept;
-          calm = λ _ _.
-              subst₂ (λ (a b : List ℕ). Calm (netIn inputs nodes fan count) (at next) (at a) (at b) v) (sym same) (sym kept)
-              (no-ways-calm s inside into (subst (λ (a : List ℕ). (1 ≤ at found-out v) ⊎ NoWayOut next a v) same out));
+          same = λ _. whole;
+          calm = λ _ _. rw whole (no-ways-calm s inside into (rw same at out));
+          kept = subst (PathsKept nodes links) (sym whole) (paths-same nodes links);
         }
-    visit-both inside (VisitedIn.stays e same alike into) (VisitedOut.new f none way kept) =
+    visit-both inside (VisitedIn.stays e same into) (VisitedOut.new f none way out) =
         record {
-          searched = visit-out (visit-in s inside (VisitedIn.stays e same alike into)) inside (VisitedOut.new f none way kept);
+          searched = visit-out (visit-in s inside (VisitedIn.stays e same into)) inside (VisitedOut.new f none way out);
           onward = omega arith;
-          same-in = λ quiet. absurd (omega arith);
-          same-out = λ quiet. absurd (omega arith);
+          same = λ quiet. absurd (omega arith);
           calm = λ quiet _. absurd (omega arith);
+          kept = paths-then (in-kept (VisitedIn.stays e same into)) (out-kept (VisitedOut.new f none way out));
         }
-    visit-both inside (VisitedIn.new from e none some way same alike) out =
-        let after = visit-in s inside (VisitedIn.new from e none some way same alike) in
+    visit-both inside (VisitedIn.new from mid e none some way into parent) out =
+        let after = VisitedIn.new from mid e none some way into parent in
         let more = later out in
         record {
-          searched = visit-out after inside out;
+          searched = visit-out (visit-in s inside after) inside out;
           onward = omega arith;
-          same-in = λ quiet. absurd (omega arith);
-          same-out = λ quiet. absurd (omega arith);
+          same = λ quiet. absurd (omega arith);
           calm = λ quiet _. absurd (omega arith);
+          kept = paths-then (in-kept after) (out-kept out);
         }
-      where
-        later : {r q : ℕ} {found-in′ found-out′ : List ℕ} → VisitedOut next found-in′ v r found-out q found-out′ → r ≤ q
-        later (VisitedOut.stays f _ _) = omega arith
-        later (VisitedOut.new f _ _ _) = omega arith
 
-pub searched-room : {inputs nodes : ℕ} {fan count area next ins outs parent : List ℕ} {number : ℕ} →
-    Searched inputs nodes fan count area next ins outs parent number → number ≤ 2 * nodes
-searched-room {inputs} {nodes} {fan} {count} s = nodes-room inputs nodes fan count (found-room (s .found))
+-- An input's visit
+
+pub entered-input : {inputs nodes : ℕ} {fanins links links′ : List ℕ} {v number r : ℕ} → v < inputs → InputEntered nodes links v number r links′ →
+    VisitedIn inputs nodes fanins links v number r links′
+entered-input low (InputEntered.stays e same some) = VisitedIn.stays e same (inl some)
+entered-input low (InputEntered.new between e none into parent) =
+    VisitedIn.new 1 between e none (λ z. omega arith) (Entered.source refl low) into parent
+
+pub visited-input : {inputs nodes : ℕ} {fanins roles links links′ : List ℕ} {v number r : ℕ} → Ground inputs nodes fanins roles →
+    Searched inputs nodes fanins roles links number → v < inputs → InputVisited nodes roles links v number r links′ →
+    Visited inputs nodes fanins roles links v number r links′
+visited-input {inputs} {nodes} {fanins} {roles} {links} {v = v} {number = number} ground s low (InputVisited.outside out e same) =
+    subst₂ (Visited inputs nodes fanins roles links v number) (sym e) (sym same) (visit-none ground s out)
+visited-input ground s low (InputVisited.inside q between inside into out) = visit-both ground s inside (entered-input low into) out
+
+pub searched-room : {inputs nodes : ℕ} {fanins roles links : List ℕ} {number : ℕ} → Searched inputs nodes fanins roles links number → number ≤ 2 * nodes
+searched-room {inputs} {nodes} {fanins} s = nodes-room inputs nodes fanins (found-room (s .found))
 
 -- What a visit asks of its two halves
 
-module _ {inputs nodes : ℕ} {fan count area : List ℕ} (ground : Ground inputs nodes fan count area) {v : ℕ} (low : v < nodes) where
-  node-fed : (size : ℕ) → size ≡ nodes → Fed fan count v size
-  node-fed size e =
+module _ {inputs nodes : ℕ} {fanins roles links : List ℕ} {v number : ℕ} (ground : Ground inputs nodes fanins roles) (low : v < nodes)
+    (s : Searched inputs nodes fanins roles links number) where
+  pub number-room : number < 65535
+  number-room = omega (arith, ground .small, searched-room s)
+
+  pub enter-asked : inputs ≤ v → EnterAsked inputs nodes fanins links v number
+  enter-asked gate =
       record {
-        counted = omega (arith, ground .drawn .count-long);
-        few = ground .drawn .six v low;
-        fan-long = omega (arith, ground .drawn .fan-long);
-        known = λ i short.
-            omega (arith, fanin-low inputs nodes fan count (ground .drawn) v low (fanin-there inputs nodes fan count (ground .drawn) v i low short));
-        small = omega (arith, ground .small);
+        way = record {
+          small = ground .small;
+          long = s .long;
+          gate = gate;
+          node = low;
+          fed = record {
+            long = omega (arith, ground .drawn .lists .long);
+            six = ground .drawn .lists .six v low;
+            known = λ u feeds. fanin-low (ground .drawn) low feeds;
+          };
+        };
+        number-small = number-room;
       }
 
-  module _ {next ins outs parent : List ℕ} {number : ℕ} (s : Searched inputs nodes fan count area next ins outs parent number) where
-    number-room : number < 65535
-    number-room = omega (arith, ground .small, searched-room s)
-
-    pub visit-in-asked : VisitInAsked fan count next outs ins parent v number
-    visit-in-asked =
-        record {
-          way = record {
-            fed = node-fed (length outs) (s .out-long);
-            next-low = omega (arith, s .next-long);
-            out-low = omega (arith, s .out-long);
-          };
-          in-low = omega (arith, s .in-long);
-          parent-low = omega (arith, s .parent-long);
-          number-small = number-room;
-        }
-
-    pub visit-out-asked : VisitOutAsked next ins outs v number
-    visit-out-asked =
-        record {
-          way = record {
-            next-low = omega (arith, s .next-long);
-            in-low = omega (arith, s .in-long);
-            leads = λ g e. omega (arith, s .in-long, s .leads v g e);
-          };
-          out-low = omega (arith, s .out-long);
-          number-small = number-room;
-        }
+  pub leave-asked : LeaveAsked nodes links v number
+  leave-asked = record { way = record { small = ground .small; long = s .long; node = low; leads = s .leads v }; number-small = number-room }

@@ -6,7 +6,7 @@ pub mod Borders
 pub mod Leasts
 pub mod Paths
 pub mod Orders
-pub mod Stores
+pub mod Columns
 pub mod Finding
 pub mod Ways
 pub mod Sweeping

@@ -6,8 +6,9 @@ use native.Mathlib.Omega.{arith}
 use mathlib.Core.Path.{_≡_, refl, sym, ap, subst, _∙_}
 use mathlib.Core.Logic.{_⊎_, inl, inr, ⊎-elim}
 use mathlib.Core.List.{List·Memᴰ}
+use Rattle.storage.specs.Entries.{Upd}
 use Rattle.theory.specs.Net.{Net}
-use Rattle.flow.specs.Numbers.{sum, Upd}
+use Rattle.flow.specs.Numbers.{sum}
 use Rattle.flow.specs.Flow.{one, Linked, Freed}
 use Rattle.flow.proofs.Sums.{sum-more}
 
@@ -32,13 +33,6 @@ module _ {net : Net} {area next prev : ℕ → ℕ} (l : Linked net area next pr
     where
       by-use : Dec (next v ≡ 0) → 1 ≤ next v
       by-use (yes e) = omega (arith, l .idle v e)
-      by-use (no apart) = omega arith
-
-  pub come-used : {v : ℕ} → 1 ≤ next v → 1 ≤ prev v
-  come-used {v} used = by-use (ℕ-discrete (prev v) 0)
-    where
-      by-use : Dec (prev v ≡ 0) → 1 ≤ prev v
-      by-use (yes e) = omega (arith, l .fresh v e)
       by-use (no apart) = omega arith
 
 module _ {net : Net} {area next prev next′ prev′ : ℕ → ℕ} (l : Linked net area next prev) where

@@ -1,6 +1,6 @@
 -- An order of the gates gives each node a rank: 0 at an input, one more than its place at a gate. Where there is an input, ranks are below the number
 -- of nodes.
-use Prim.Native.Nat.{ℕ, zero, suc, _+_, _*_, _≤_, _<_}
+use Prim.Native.Nat.{ℕ, zero, suc, _*_, _≤_, _<_}
 use native.Mathlib.Nat.{not-suc-le-zero}
 use native.Mathlib.Decide.{ℕ-discrete, decLt}
 use native.Mathlib.Omega.{arith}
@@ -8,17 +8,15 @@ use mathlib.Core.Path.{_≡_, sym, ap, subst, _∙_}
 use mathlib.Core.Bool.{Bool, cond}
 use mathlib.Core.Logic.{_⊎_, inl, inr}
 use mathlib.Core.List.{List, [], _∷_, List·Memᴰ, List·Memᴰ·head, List·Memᴰ·tail, List·Memᴰ·not-nil}
-use lib.ListN.{length, getD, take, drop, length-take, length-drop}
-use lib.Seq.{getD-take, getD-drop}
+use lib.ListN.{length, getD}
 use lib.Dec.{eqb, ltb}
 use borrow.Author.Tests.{eq-eqb, ne-eqb, lt-ltb, le-ltb}
+use Rattle.storage.specs.Drawings.{netIn, Ordered}
+use Rattle.storage.proofs.Drawings.{fanins-out}
+pub use Rattle.storage.proofs.Entries.{member-at as place-member}
 use Rattle.theory.specs.Net.{Net, Gate, Input}
 use Rattle.theory.specs.Sound.{Bounded, Ranked}
 use Rattle.theory.proofs.Walks.{input-or-gate, reader-is-gate, fanin-node}
-use Rattle.drawing.specs.Table.{netIn}
-use Rattle.walking.specs.Arrays.{Drawn, Ordered}
-use Rattle.walking.proofs.Entries.{member-at, fanins-in, fanins-out}
-pub use Rattle.walking.proofs.Entries.{member-at as place-member}
 
 -- the first place at which v stands
 place : List ℕ → ℕ → ℕ
@@ -57,10 +55,6 @@ place-first v (x ∷ l) (suc j) low e =
       | yes same ↦ omega (arith, place-here x v l same)
       | no apart ↦ omega (arith, place-later x v l apart, place-first v l j (omega arith) e)
     ]
-
--- a member of a list stands at some place
-pub stands : {v : ℕ} {l : List ℕ} → List·Memᴰ v l → (i : ℕ) × (i < length l) × (getD l i 0 ≡ v)
-stands {v} {l} m = (place l v, place-low m, place-stands m)
 
 -- Ranks
 
@@ -101,45 +95,21 @@ module _ {net : Net} {k : ℕ} {order : List ℕ} (bounded : Bounded net k) (nod
       by-kind (inl low) = omega (arith, rank-input v low)
       by-kind (inr g) = omega (arith, rank-gate v g, place-low (ordered .all v g))
 
--- The fanins that arrays hold
+-- The net that arrays hold, seen from outside
 
-module _ (inputs nodes : ℕ) (fan count : List ℕ) where
-  pub no-feeds : (v : ℕ) → netIn inputs nodes fan count .nodes ≤ v → netIn inputs nodes fan count .fanins v ≡ []
+module _ (inputs nodes : ℕ) (fanins : List ℕ) where
+  pub no-feeds : (v : ℕ) → netIn inputs nodes fanins .nodes ≤ v → netIn inputs nodes fanins .fanins v ≡ []
   unfolding netIn
-  no-feeds v high = fanins-out inputs nodes fan count v high
+  no-feeds v high = fanins-out inputs nodes fanins v high
 
-  pub inputs-held : {v : ℕ} → v < netIn inputs nodes fan count .inputs → v < inputs
+  pub inputs-held : {v : ℕ} → v < netIn inputs nodes fanins .inputs → v < inputs
   unfolding netIn
   inputs-held low = low
 
-  pub held-input : {v : ℕ} → v < inputs → v < netIn inputs nodes fan count .inputs
+  pub held-input : {v : ℕ} → v < inputs → v < netIn inputs nodes fanins .inputs
   unfolding netIn
   held-input low = low
 
-  pub nodes-room : {m : ℕ} → m ≤ 2 * netIn inputs nodes fan count .nodes → m ≤ 2 * nodes
+  pub nodes-room : {m : ℕ} → m ≤ 2 * netIn inputs nodes fanins .nodes → m ≤ 2 * nodes
   unfolding netIn
   nodes-room less = less
-
-  module _ {k : ℕ} (drawn : Drawn inputs nodes k fan count) where
-    fanins-long : (v : ℕ) → v < nodes → length (take (getD count v 0) (drop (6 * v) fan)) ≡ getD count v 0
-    fanins-long v low = simp (length-take, length-drop) (omega (arith, drawn .six v low, drawn .fan-long))
-
-    fanin-held : (v i : ℕ) → v < nodes → i < getD count v 0 → getD (take (getD count v 0) (drop (6 * v) fan)) i 0 ≡ getD fan (6 * v + i) 0
-    fanin-held v i low less = getD-take (getD count v 0) (drop (6 * v) fan) i 0 less ∙ getD-drop (6 * v) fan i 0
-
-    pub fanin-there : (v i : ℕ) → v < nodes → i < getD count v 0 → List·Memᴰ (getD fan (6 * v + i) 0) (netIn inputs nodes fan count .fanins v)
-    fanin-there v i low less =
-        let l = take (getD count v 0) (drop (6 * v) fan) in
-        subst (List·Memᴰ (getD fan (6 * v + i) 0)) (sym (fanins-in inputs nodes fan count v low))
-        (subst (λ (x : ℕ). List·Memᴰ x l) (fanin-held v i low less) (member-at l i (omega (arith, fanins-long v low))))
-
-    pub fanin-place : (v : ℕ) {u : ℕ} → v < nodes → List·Memᴰ u (netIn inputs nodes fan count .fanins v) →
-        (i : ℕ) × (i < getD count v 0) × (getD fan (6 * v + i) 0 ≡ u)
-    fanin-place v {u} low m =
-        let (i, less, e) = stands (subst (List·Memᴰ u) (fanins-in inputs nodes fan count v low) m) in
-        let short : i < getD count v 0 = omega (arith, fanins-long v low) in
-        (i, short, sym (fanin-held v i low short) ∙ e)
-
-    pub fanin-low : (v : ℕ) {u : ℕ} → v < nodes → List·Memᴰ u (netIn inputs nodes fan count .fanins v) → u < nodes
-    unfolding netIn
-    fanin-low v low m = fanin-node (drawn .bounded) low m

@@ -3,31 +3,24 @@
 use Prim.Native.Nat.{ℕ, zero, suc, _+_, _≤_, _<_}
 use native.Mathlib.Omega.{arith}
 use mathlib.Core.Path.{_≡_, refl, sym, ap, subst, _∙_}
-use mathlib.Core.Bool.{Bool, true, false, cond}
+use mathlib.Core.Bool.{Bool, cond}
 use mathlib.Core.Logic.{_⊎_, inl, inr, ⊎-elim}
-use mathlib.Core.List.{List, [], _∷_, _++_, map, List·Memᴰ, List·Memᴰ·head, List·Memᴰ·tail, List·Memᴰ·not-nil, List·Memᴰ·cases-cons, List·Memᴰ·append-cases, Memᴰ·cast, Memᴰ·of-map}
+use mathlib.Core.List.{List, [], _∷_, map, List·Memᴰ, List·Memᴰ·head, List·Memᴰ·tail, List·Memᴰ·not-nil, List·Memᴰ·cases-cons, List·Memᴰ·append-cases, Memᴰ·cast, Memᴰ·of-map}
 use lib.ListN.{length, length-map}
 use lib.Dec.{eqb}
 use borrow.Author.Tests.{eqb-true, ne-eqb}
-use Rattle.theory.specs.Net.{Net, Gate, Input}
+use Rattle.theory.specs.Net.{Net}
 use Rattle.theory.specs.Sound.{Ranked}
 use Rattle.theory.specs.Lists.{NoRepeats}
-use Rattle.theory.specs.Evidence.{InD, Run, TruePath, joined, Evidence}
-use Rattle.theory.proofs.Members.{rising-no-repeats}
-use Rattle.flow.specs.Numbers.{sum, those}
+use Rattle.theory.specs.Evidence.{Run, TruePath, joined, Evidence}
+use Rattle.theory.proofs.Members.{rising-no-repeats, no-repeats-join}
+use Rattle.flow.specs.Numbers.{those}
 use Rattle.flow.specs.Flow.{one, Linked, Carries}
-use Rattle.area.specs.Area.{InArea, IsEnd}
+use Rattle.area.specs.Area.{InArea}
 use Rattle.flow.specs.Area.{Marked}
 use Rattle.flow.specs.Paths.{onward, follow}
 use Rattle.flow.proofs.Sums.{sum-front, sum-same, those-length, those-hold, those-rising}
-use Rattle.flow.proofs.Links.{used-come, come-used}
-
-no-repeats-append : {l m : List ℕ} → NoRepeats l → NoRepeats m → ((v : ℕ) → List·Memᴰ v l → List·Memᴰ v m → ⊥) → NoRepeats (l ++ m)
-no-repeats-append NoRepeats.none apart other = apart
-no-repeats-append (NoRepeats.more {v = v} {vs = vs} new rest) apart other =
-    NoRepeats.more
-    (λ m. ⊎-elim (λ early. new early) (λ late. other v (List·Memᴰ·head refl) late) (List·Memᴰ·append-cases vs m))
-    (no-repeats-append rest apart (λ w here. other w (List·Memᴰ·tail here)))
+use Rattle.flow.proofs.Links.{used-come}
 
 joined-member : (f : ℕ → List ℕ) {w : ℕ} (l : List ℕ) → List·Memᴰ w (joined (map f l)) → (s : ℕ) × List·Memᴰ s l × List·Memᴰ w (f s)
 unfolding joined
@@ -108,7 +101,7 @@ module _ {net : Net} {lab : ℕ → ℕ} {t : ℕ} (ranked : Ranked net) {area e
   unfolding joined
   paths-apart room NoRepeats.none starts = NoRepeats.none
   paths-apart room (NoRepeats.more {v = s} {vs = l} new rest) starts =
-      no-repeats-append (follow-apart room s) (paths-apart room rest (λ r m. starts r (List·Memᴰ·tail m)))
+      no-repeats-join (follow-apart room s) (paths-apart room rest (λ r m. starts r (List·Memᴰ·tail m)))
       (λ w here there.
       let (r, at, on) = joined-member (follow next room) l there in
       new

@@ -7,7 +7,8 @@ use native.Mathlib.Omega.{arith}
 use mathlib.Core.Path.{_≡_, refl, sym, ap, ap₂, subst, _∙_}
 use mathlib.Core.Bool.{Bool, true, false, cond}
 use mathlib.Core.Logic.{⊎-elim}
-use mathlib.Core.List.{List, [], _∷_, _++_, append-nil, List·Memᴰ, List·Memᴰ·head, List·Memᴰ·tail, List·Memᴰ·not-nil, List·Memᴰ·append-cases, List·Memᴰ·eq-of-singleton, Memᴰ·append-left, Memᴰ·append-right}
+use mathlib.Core.List.{List, [], _∷_, _++_, append-nil, List·Memᴰ, List·Memᴰ·head, List·Memᴰ·tail, List·Memᴰ·not-nil, List·Memᴰ·append-cases}
+use mathlib.Core.List.{List·Memᴰ·eq-of-singleton, Memᴰ·append-left, Memᴰ·append-right}
 use lib.ListN.{length, length-append}
 use Rattle.theory.specs.Lists.{Rising}
 use Rattle.theory.proofs.Members.{no-longer, rising-no-repeats}
@@ -140,3 +141,23 @@ those-rising test (suc n) = by-test (test n) (those-rising test n)
 pub those-in : (test : ℕ → Bool) (n : ℕ) (l : List ℕ) → ((v : ℕ) → test v ≡ true → List·Memᴰ v l) → sum (λ v. cond (test v) 1 0) n ≤ length l
 those-in test n l lies =
     omega (arith, those-length test n, no-longer l (rising-no-repeats (those-rising test n)) (λ v m. lies v (those-hold test n m .1)))
+
+-- one number more
+pub those-yes : (test : ℕ → Bool) (i : ℕ) → test i ≡ true → those test (suc i) ≡ those test i ++ (i ∷ [])
+unfolding those
+those-yes test i e = ap (λ (b : Bool). those test i ++ cond b (i ∷ []) []) e
+
+pub those-no : (test : ℕ → Bool) (i : ℕ) → test i ≡ false → those test (suc i) ≡ those test i
+unfolding those
+those-no test i e = ap (λ (b : Bool). those test i ++ cond b (i ∷ []) []) e ∙ append-nil (those test i)
+
+pub those-grow : (test : ℕ → Bool) (i n : ℕ) → i ≤ n → length (those test i) ≤ length (those test n)
+unfolding those
+those-grow test zero n low = omega arith
+those-grow test (suc i) zero low = absurd (not-suc-le-zero low)
+those-grow test (suc i) (suc n) low =
+    elim (ℕ-discrete i n) [
+      | yes e ↦ omega (arith, ap (λ (m : ℕ). length (those test (suc m))) e)
+      | no apart ↦
+          omega (arith, those-grow test (suc i) n (omega arith), length-append (those test n) (cond (test n) (n ∷ []) []))
+    ]

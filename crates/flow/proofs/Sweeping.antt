@@ -2,25 +2,28 @@
 use Prim.Native.Nat.{ℕ, zero, suc, _+_, _-_, _≤_, _<_}
 use native.Mathlib.Decide.{ℕ-discrete, decLt}
 use native.Mathlib.Omega.{arith}
-use mathlib.Core.Path.{_≡_, refl, sym, ap, subst, subst₂, _∙_}
+use mathlib.Core.Path.{_≡_, refl, sym, ap, subst, _∙_}
 use mathlib.Core.Bool.{Bool, true, false, not}
+use mathlib.Core.Logic.{inl}
 use mathlib.Core.List.{List}
-use lib.ListN.{length, getD, replicate, length-replicate, List·getD-eq-default, getD-replicate}
+use lib.ListN.{length, replicate, length-replicate, List·getD-eq-default, getD-replicate}
 use lib.Dec.{eqb}
 use borrow.Author.Tests.{ne-eqb}
-use Rattle.drawing.specs.declared.Node.{Node}
-use Rattle.drawing.specs.Table.{netIn}
+use Rattle.storage.specs.declared.Node.{Node}
+use Rattle.storage.specs.Drawings.{netIn}
+use Rattle.storage.specs.Entries.{at}
+use Rattle.storage.specs.Roles.{areaIn, endsIn}
+use Rattle.storage.proofs.Entries.{member-at, place-of}
 use Rattle.flow.specs.declared.searching.Swept.{Swept}
 use Rattle.flow.specs.declared.searching.Swept.the-variants.{Reached, UpTo}
 use Rattle.flow.specs.declared.searching.Sought.{Sought}
 use Rattle.flow.specs.declared.searching.Sought.the-variants.{End, Nothing}
-use Rattle.flow.specs.Flow.{Settled}
-use Rattle.flow.specs.Turns.{at, nodeAt, Searched, Visited}
-use Rattle.flow.specs.Sweeps.{EndReached, Field, AllSettled, EndFound, SweptSo, SearchAsked, SoughtSo}
-use Rattle.walking.proofs.Entries.{member-at}
-use Rattle.flow.proofs.Orders.{stands}
+use Rattle.flow.specs.Links.{nextIn, outsIn}
+use Rattle.flow.specs.Cells.{Cleared, PathsKept}
+use Rattle.flow.specs.Turns.{Searched, Visited}
+use Rattle.flow.specs.Sweeps.{EndReached, EndAsked, Field, SettledIn, AllSettled, EndFound, SweptSo, SearchAsked, SoughtSo}
+use Rattle.flow.proofs.Columns.{paths-same, paths-then}
 use Rattle.flow.proofs.Finding.{area-low, none-found}
-use Rattle.flow.proofs.Ways.{node-input, node-gate}
 
 -- Ends
 
@@ -47,170 +50,156 @@ no-end-read ends outs v out =
       missed = λ b e. absurd (out e);
     }
 
--- A sweep so far: from the arrays at its start to those at turn i.
-pub record SweepLeft (inputs nodes : ℕ) (fan count order area ends : List ℕ) (next ins₀ outs₀ : List ℕ) (number : ℕ) (ins outs parent : List ℕ) (last i : ℕ) : Type 0 where
-  pub passed : i ≤ nodes
-  pub searched : Searched inputs nodes fan count area next ins outs parent last
+-- A sweep so far, over the nodes that `turn` gives one after the other: from the links at its start to those at turn i.
+pub record SweepLeft (inputs nodes : ℕ) (fanins roles : List ℕ) (turn : ℕ → ℕ) (links₀ : List ℕ) (number : ℕ) (links : List ℕ) (last i : ℕ) : Type 0 where
+  pub searched : Searched inputs nodes fanins roles links last
   pub onward : number ≤ last
-  pub same-in : last ≡ number → ins ≡ ins₀
-  pub same-out : last ≡ number → outs ≡ outs₀
-  pub settled : last ≡ number → (j : ℕ) → j < i → at area (nodeAt inputs order j) ≡ 1 →
-      Settled (netIn inputs nodes fan count) (at ends) (at next) (at ins) (at outs) (nodeAt inputs order j)
+  pub same : last ≡ number → links ≡ links₀
+  pub settled : last ≡ number → (j : ℕ) → j < i → at (areaIn roles) (turn j) ≡ 1 → SettledIn inputs nodes fanins roles links (turn j)
+  pub kept : PathsKept nodes links₀ links
 
--- The nodes in turn
+module _ {inputs nodes : ℕ} {fanins roles : List ℕ} {turn : ℕ → ℕ} {links₀ : List ℕ} {number : ℕ} where
+  pub sweep-starts : Searched inputs nodes fanins roles links₀ number → SweepLeft inputs nodes fanins roles turn links₀ number links₀ number 0
+  sweep-starts s =
+      record {
+        searched = s;
+        onward = omega arith;
+        same = λ _. refl;
+        settled = λ _ j low. absurd (omega arith);
+        kept = paths-same nodes links₀;
+      }
 
-module _ {inputs nodes : ℕ} {fan count order area ends : List ℕ} (field : Field inputs nodes fan count order area ends) where
-  order-size : inputs + length order ≡ nodes
+  take-turn : {links links′ : List ℕ} {last i r : ℕ} {b : Bool} → SweepLeft inputs nodes fanins roles turn links₀ number links last i →
+      Visited inputs nodes fanins roles links (turn i) last r links′ → EndReached (endsIn roles) (outsIn nodes links′) (turn i) b → b ≡ false →
+      SweepLeft inputs nodes fanins roles turn links₀ number links′ r (i + 1)
+  take-turn {links} {links′} {last} {i} {r} l visited reached none =
+      record {
+        searched = visited .searched;
+        onward = omega (arith, l .onward, visited .onward);
+        same = λ quiet. visited .same (still quiet) ∙ l .same (before quiet);
+        settled = λ quiet j below inside. by-turn quiet j below inside (ℕ-discrete j i);
+        kept = paths-then (l .kept) (visited .kept);
+      }
+    where
+      before : r ≡ number → last ≡ number
+      before quiet = omega (arith, l .onward, visited .onward)
+
+      still : r ≡ number → r ≡ last
+      still quiet = omega (arith, l .onward, visited .onward)
+
+      by-turn : r ≡ number → (j : ℕ) → j < i + 1 → at (areaIn roles) (turn j) ≡ 1 → Dec (j ≡ i) → SettledIn inputs nodes fanins roles links′ (turn j)
+      by-turn quiet j below inside (no apart) =
+          subst (λ (l : List ℕ). SettledIn inputs nodes fanins roles l (turn j)) (sym (visited .same (still quiet)))
+          (l .settled (before quiet) j (omega arith) inside)
+      by-turn quiet j below inside (yes e) =
+          subst (λ (m : ℕ). SettledIn inputs nodes fanins roles links′ (turn m)) (sym e)
+          (record { calm = visited .calm (still quiet) (ap (λ (m : ℕ). at (areaIn roles) (turn m)) (sym e) ∙ inside); no-end = reached .missed none })
+
+  pub sweep-turn : {links links′ : List ℕ} {last i r v : ℕ} {b : Bool} → SweepLeft inputs nodes fanins roles turn links₀ number links last i → v ≡ turn i →
+      Visited inputs nodes fanins roles links v last r links′ → EndReached (endsIn roles) (outsIn nodes links′) v b → b ≡ false →
+      SweepLeft inputs nodes fanins roles turn links₀ number links′ r (i + 1)
+  sweep-turn {links} {links′} {last} {r = r} {b = b} l e visited reached none =
+      take-turn l (subst (λ (w : ℕ). Visited inputs nodes fanins roles links w last r links′) e visited)
+      (subst (λ (w : ℕ). EndReached (endsIn roles) (outsIn nodes links′) w b) e reached) none
+
+module _ {inputs nodes : ℕ} {fanins order roles : List ℕ} (field : Field inputs nodes fanins order roles) where
+  pub order-size : inputs + length order ≡ nodes
   unfolding netIn
   order-size = field .ordered .size
 
-  pub turn-low : (i : ℕ) → i < nodes → i < inputs + length order
-  turn-low i low = omega (arith, order-size)
-
-  pub inputs-small : inputs ≤ 32767
-  inputs-small = omega (arith, order-size, field .ground .small)
-
-  pub node-low : (i : ℕ) → i < nodes → nodeAt inputs order i < nodes
+  pub gate-above : (j : ℕ) → j < length order → inputs ≤ at order j
   unfolding netIn
-  node-low i low = by-side (decLt i inputs)
-    where
-      by-side : Dec (i < inputs) → nodeAt inputs order i < nodes
-      by-side (yes less) = omega (arith, node-input inputs order i less)
-      by-side (no high) =
-          let at-place : i - inputs < length order = omega (arith, order-size) in
-          omega (arith, node-gate inputs order i (omega arith), field .ordered .gates (getD order (i - inputs) 0) (member-at order (i - inputs) at-place) .below)
+  gate-above j low = field .ordered .gates (at order j) (member-at order j low) .above
 
-  node-turn : (v : ℕ) → v < nodes → (i : ℕ) × (i < nodes) × (nodeAt inputs order i ≡ v)
+  pub gate-below : (j : ℕ) → j < length order → at order j < nodes
   unfolding netIn
-  node-turn v low = by-side (decLt v inputs)
+  gate-below j low = field .ordered .gates (at order j) (member-at order j low) .below
+
+  -- what the test for an end asks
+  pub end-asked : {links : List ℕ} {last v : ℕ} → Searched inputs nodes fanins roles links last → v < nodes → EndAsked nodes roles links v
+  end-asked {v = v} s low =
+      record { small = field .ground .small; long = s .long; roles-long = field .ground .roles-long; node = low; inside = field .ends-inside v }
+
+  -- the inputs and then the gates: where no number was given, all are settled
+  pub sweep-settles : {links₀ links links′ : List ℕ} {number last last′ i j : ℕ} → SweepLeft inputs nodes fanins roles (λ v. v) links₀ number links last i →
+      inputs ≤ i → SweepLeft inputs nodes fanins roles (at order) links last links′ last′ j → length order ≤ j → last′ ≡ number →
+      AllSettled inputs nodes fanins roles links′
+  unfolding netIn
+  sweep-settles {links = links} {links′ = links′} {number = number} {last = last} {last′ = last′} a all b every quiet v inside = by-side (decLt v inputs)
     where
-      by-side : Dec (v < inputs) → (i : ℕ) × (i < nodes) × (nodeAt inputs order i ≡ v)
-      by-side (yes less) = (v, low, sym (node-input inputs order v less))
+      still : last′ ≡ last
+      still = omega (arith, a .onward, b .onward)
+
+      before : last ≡ number
+      before = omega (arith, a .onward, b .onward)
+
+      by-side : Dec (v < inputs) → SettledIn inputs nodes fanins roles links′ v
+      by-side (yes less) =
+          subst (λ (l : List ℕ). SettledIn inputs nodes fanins roles l v) (sym (b .same still)) (a .settled before v (omega arith) inside)
       by-side (no high) =
-          let (j, short, e) = stands (field .ordered .all v (record { above = omega arith; below = low })) in
-          let back : inputs + j - inputs ≡ j = omega arith in
-          (inputs + j, omega (arith, order-size), sym (node-gate inputs order (inputs + j) (omega arith)) ∙ ap (λ (m : ℕ). getD order m 0) back ∙ e)
-
-  module _ {next ins₀ outs₀ : List ℕ} {number : ℕ} where
-    pub sweep-starts : {parent : List ℕ} → Searched inputs nodes fan count area next ins₀ outs₀ parent number →
-        SweepLeft inputs nodes fan count order area ends next ins₀ outs₀ number ins₀ outs₀ parent number 0
-    sweep-starts s =
-        record {
-          passed = omega arith;
-          searched = s;
-          onward = omega arith;
-          same-in = λ _. refl;
-          same-out = λ _. refl;
-          settled = λ _ j low. absurd (omega arith);
-        }
-
-    turn : {ins outs parent ins′ outs′ parent′ : List ℕ} {last i r : ℕ} {b : Bool} → SweepLeft inputs nodes fan count order area ends next ins₀ outs₀ number ins outs parent last i →
-        i < nodes → Visited inputs nodes fan count area next (nodeAt inputs order i) last ins outs r ins′ outs′ parent′ →
-        EndReached ends outs′ (nodeAt inputs order i) b → b ≡ false → SweepLeft inputs nodes fan count order area ends next ins₀ outs₀ number ins′ outs′ parent′ r (i + 1)
-    turn {ins} {outs} {ins′ = ins′} {outs′ = outs′} {last = last} {i = i} {r = r} l low visited reached none =
-        record {
-          passed = omega arith;
-          searched = visited .searched;
-          onward = omega (arith, l .onward, visited .onward);
-          same-in = λ quiet. visited .same-in (still quiet) ∙ l .same-in (before quiet);
-          same-out = λ quiet. visited .same-out (still quiet) ∙ l .same-out (before quiet);
-          settled = λ quiet j below inside. by-turn quiet j below inside (ℕ-discrete j i);
-        }
-      where
-        before : r ≡ number → last ≡ number
-        before quiet = omega (arith, l .onward, visited .onward)
-
-        still : r ≡ number → r ≡ last
-        still quiet = omega (arith, l .onward, visited .onward)
-
-        by-turn : r ≡ number → (j : ℕ) → j < i + 1 → at area (nodeAt inputs order j) ≡ 1 → Dec (j ≡ i) →
-            Settled (netIn inputs nodes fan count) (at ends) (at next) (at ins′) (at outs′) (nodeAt inputs order j)
-        by-turn quiet j below inside (no apart) =
-            subst₂ (λ (a b : List ℕ). Settled (netIn inputs nodes fan count) (at ends) (at next) (at a) (at b) (nodeAt inputs order j))
-            (sym (visited .same-in (still quiet))) (sym (visited .same-out (still quiet))) (l .settled (before quiet) j (omega arith) inside)
-        by-turn quiet j below inside (yes e) =
-            subst (λ (m : ℕ). Settled (netIn inputs nodes fan count) (at ends) (at next) (at ins′) (at outs′) (nodeAt inputs order m)) (sym e)
-            (record {
-              calm = visited .calm (still quiet) (ap (λ (m : ℕ). at area (nodeAt inputs order m)) (sym e) ∙ inside);
-              no-end = reached .missed none;
-            })
-
-    pub sweep-turn : {ins outs parent ins′ outs′ parent′ : List ℕ} {last i r v : ℕ} {b : Bool} →
-        SweepLeft inputs nodes fan count order area ends next ins₀ outs₀ number ins outs parent last i → i < nodes → v ≡ nodeAt inputs order i →
-        Visited inputs nodes fan count area next v last ins outs r ins′ outs′ parent′ → EndReached ends outs′ v b → b ≡ false →
-        SweepLeft inputs nodes fan count order area ends next ins₀ outs₀ number ins′ outs′ parent′ r (i + 1)
-    sweep-turn {ins} {outs} {ins′ = ins′} {outs′ = outs′} {parent′ = parent′} {last = last} {r = r} {b = b} l low e visited reached none =
-        turn l low (subst (λ (w : ℕ). Visited inputs nodes fan count area next w last ins outs r ins′ outs′ parent′) e visited)
-        (subst (λ (w : ℕ). EndReached ends outs′ w b) e reached) none
-
-    pub sweep-settles : {ins outs parent : List ℕ} {last i : ℕ} → SweepLeft inputs nodes fan count order area ends next ins₀ outs₀ number ins outs parent last i → nodes ≤ i → last ≡ number →
-        AllSettled inputs nodes fan count area ends next ins outs
-    sweep-settles {ins} {outs} l all quiet v inside =
-        let (j, low, e) = node-turn v (area-low (field .ground) v inside) in
-        subst (λ (w : ℕ). Settled (netIn inputs nodes fan count) (at ends) (at next) (at ins) (at outs) w) e
-        (l .settled quiet j (omega (arith, low)) (ap (at area) e ∙ inside))
+          let p = place-of (field .ordered .all v (record { above = omega arith; below = area-low (field .ground) v inside })) in
+          subst (SettledIn inputs nodes fanins roles links′) (p .entry)
+          (b .settled still (p .at) (omega (arith, p .inside)) (ap (at (areaIn roles)) (p .entry) ∙ inside))
 
 -- Where a search starts: nothing was found.
 
-pub zeros-at : (n v : ℕ) → at (replicate n 0) v ≡ 0
+zeros-at : (n v : ℕ) → at (replicate n 0) v ≡ 0
 zeros-at n v = by-place (decLt v n)
   where
     by-place : Dec (v < n) → at (replicate n 0) v ≡ 0
     by-place (yes low) = getD-replicate n v 0 0 low
     by-place (no high) = List·getD-eq-default (replicate n 0) 0 {n = v} (omega (arith, length-replicate {A = ℕ} n 0))
 
-pub search-starts : {inputs nodes : ℕ} {fan count order area ends next ins outs parent ins′ outs′ : List ℕ} →
-    SearchAsked inputs nodes fan count order area ends next ins outs parent → ins′ ≡ replicate (length ins) 0 → outs′ ≡ replicate (length outs) 0 →
-    Searched inputs nodes fan count area next ins′ outs′ parent 0
-search-starts {ins = ins} {outs = outs} asked e f =
+-- a column that was cleared
+pub zeros-in : (n : ℕ) {l : List ℕ} → l ≡ replicate n 0 → (v : ℕ) → at l v ≡ 0
+zeros-in n e v = ap (λ (m : List ℕ). at m v) e ∙ zeros-at n v
+
+pub search-starts : {inputs nodes : ℕ} {fanins order roles links links′ : List ℕ} → SearchAsked inputs nodes fanins order roles links →
+    Cleared nodes 2 2 links links′ → Searched inputs nodes fanins roles links′ 0
+search-starts {nodes = nodes} {links = links} {links′ = links′} asked clear =
+    let next-same : nextIn nodes links′ ≡ nextIn nodes links = clear .others 0 (inl (omega arith)) in
     record {
-      next-long = asked .next-long;
-      in-long = ap length e ∙ length-replicate (length ins) 0 ∙ asked .in-long;
-      out-long = ap length f ∙ length-replicate (length outs) 0 ∙ asked .out-long;
-      parent-long = asked .parent-long;
-      leads = asked .leads;
-      found = none-found (λ v. ap (λ (l : List ℕ). at l v) e ∙ zeros-at (length ins) v) (λ v. ap (λ (l : List ℕ). at l v) f ∙ zeros-at (length outs) v);
+      long = omega (arith, asked .long, clear .rest .size);
+      leads = rw next-same (asked .leads);
+      found = none-found (zeros-in nodes (clear .zeros 2 (omega arith) (omega arith))) (zeros-in nodes (clear .zeros 3 (omega arith) (omega arith)));
     }
+
+-- a clear behind the first two columns
+pub paths-cleared : {nodes first many : ℕ} {links links′ : List ℕ} → 2 ≤ first → Cleared nodes first many links links′ → PathsKept nodes links links′
+paths-cleared high clear = record { next = clear .others 0 (inl (omega arith)); prev = clear .others 1 (inl (omega arith)); rest = clear .rest }
 
 -- How a sweep ended tells what it left.
 
-module _ {inputs nodes : ℕ} {fan count area ends next ins outs parent : List ℕ} {number : ℕ} {r : Swept}
-    (s : SweptSo inputs nodes fan count area ends next number r ins outs parent) where
-  pub swept-reached : {v : Node} → r ≡ Reached v → EndFound inputs nodes fan count area ends next ins outs parent (v .id)
+module _ {inputs nodes : ℕ} {fanins roles links : List ℕ} {number : ℕ} {r : Swept} (s : SweptSo inputs nodes fanins roles number r links) where
+  pub swept-reached : {v : Node} → r ≡ Reached v → EndFound inputs nodes fanins roles links (v .id)
   swept-reached {v} e = by-end s
     where
-      by-end : SweptSo inputs nodes fan count area ends next number r ins outs parent → EndFound inputs nodes fan count area ends next ins outs parent (v .id)
-      by-end (SweptSo.reached w f found) =
-          subst (λ (u : Node). EndFound inputs nodes fan count area ends next ins outs parent (u .id)) (cc) found
+      by-end : SweptSo inputs nodes fanins roles number r links → EndFound inputs nodes fanins roles links (v .id)
+      by-end (SweptSo.reached w f found) = subst (λ (u : Node). EndFound inputs nodes fanins roles links (u .id)) (cc) found
       by-end (SweptSo.up-to last f _ _ _) = absurd (let z : _≡_ {A = ℕ} 0 1 = cc in omega arith)
 
-  pub swept-up-to : {m : ℕ} → r ≡ UpTo m → Searched inputs nodes fan count area next ins outs parent m × (number ≤ m) ×
-      (m ≡ number → AllSettled inputs nodes fan count area ends next ins outs)
+  pub swept-up-to : {m : ℕ} → r ≡ UpTo m → Searched inputs nodes fanins roles links m × (number ≤ m) × (m ≡ number → AllSettled inputs nodes fanins roles links)
   swept-up-to {m} e = by-end s
     where
-      by-end : SweptSo inputs nodes fan count area ends next number r ins outs parent →
-          Searched inputs nodes fan count area next ins outs parent m × (number ≤ m) × (m ≡ number → AllSettled inputs nodes fan count area ends next ins outs)
+      by-end : SweptSo inputs nodes fanins roles number r links →
+          Searched inputs nodes fanins roles links m × (number ≤ m) × (m ≡ number → AllSettled inputs nodes fanins roles links)
       by-end (SweptSo.reached w f found) = absurd (let z : _≡_ {A = ℕ} 0 1 = cc in omega arith)
       by-end (SweptSo.up-to last f searched onward settled) =
-          let same : last ≡ m = cc in
-          (subst (Searched inputs nodes fan count area next ins outs parent) same searched, omega arith, λ quiet. settled (omega arith))
+          let same : last ≡ m = cc in (subst (Searched inputs nodes fanins roles links) same searched, omega arith, λ quiet. settled (omega arith))
 
 -- How a search ended tells what it left.
 
-module _ {inputs nodes : ℕ} {fan count area ends next ins outs parent : List ℕ} {r : Sought}
-    (s : SoughtSo inputs nodes fan count area ends next r ins outs parent) where
-  pub sought-end : {v : Node} → r ≡ End v → EndFound inputs nodes fan count area ends next ins outs parent (v .id)
+module _ {inputs nodes : ℕ} {fanins roles links : List ℕ} {r : Sought} (s : SoughtSo inputs nodes fanins roles r links) where
+  pub sought-end : {v : Node} → r ≡ End v → EndFound inputs nodes fanins roles links (v .id)
   sought-end {v} e = by-end s
     where
-      by-end : SoughtSo inputs nodes fan count area ends next r ins outs parent → EndFound inputs nodes fan count area ends next ins outs parent (v .id)
-      by-end (SoughtSo.ended w f found) = subst (λ (u : Node). EndFound inputs nodes fan count area ends next ins outs parent (u .id)) (cc) found
+      by-end : SoughtSo inputs nodes fanins roles r links → EndFound inputs nodes fanins roles links (v .id)
+      by-end (SoughtSo.ended w f found) = subst (λ (u : Node). EndFound inputs nodes fanins roles links (u .id)) (cc) found
       by-end (SoughtSo.nothing last f _ _) = absurd (let z : _≡_ {A = ℕ} 0 1 = cc in omega arith)
 
-  pub sought-nothing : r ≡ Nothing → (last : ℕ) × Searched inputs nodes fan count area next ins outs parent last ×
-      AllSettled inputs nodes fan count area ends next ins outs
+  pub sought-nothing : r ≡ Nothing → (last : ℕ) × Searched inputs nodes fanins roles links last × AllSettled inputs nodes fanins roles links
   sought-nothing e = by-end s
     where
-      by-end : SoughtSo inputs nodes fan count area ends next r ins outs parent → (last : ℕ) × Searched inputs nodes fan count area next ins outs parent last ×
-          AllSettled inputs nodes fan count area ends next ins outs
+      by-end : SoughtSo inputs nodes fanins roles r links → (last : ℕ) × Searched inputs nodes fanins roles links last × AllSettled inputs nodes fanins roles links
       by-end (SoughtSo.ended w f found) = absurd (let z : _≡_ {A = ℕ} 0 1 = cc in omega arith)
       by-end (SoughtSo.nothing last f searched settled) = (last, searched, settled)

@@ -1,98 +1,97 @@
 -- The promise of `find` settles its reply: two answers that it allows are equal, and so are the buffers, but for the evidence. Where two leave the same
 -- evidence, their links are the same too.
-use Prim.Native.Nat.{ℕ, suc, _+_, _-_, _≤_, _<_}
-use native.Mathlib.Decide.{decLt}
+use Prim.Native.Nat.{ℕ, zero, suc, _+_, _*_, _-_, _≤_, _<_}
 use native.Mathlib.Omega.{arith}
-use mathlib.Core.Path.{_≡_, refl, sym, ap, _∙_}
+use mathlib.Core.Path.{_≡_, sym, ap, _∙_}
 use mathlib.Core.List.{List}
-use lib.ListN.{length, getD, take, drop}
-use lib.Seq.{sets, ext-getD, getD-take}
+use lib.ListN.{length, take}
+use lib.Seq.{sets, ext-getD}
 use Rattle.theory.specs.Evidence.{Evidence, LeastCut}
 use Rattle.theory.proofs.Walks.{cut-stops}
 use Rattle.theory.proofs.Cuts.{same-cone-same-cut}
 use Rattle.theory.proofs.Duality.{evidence-is-tight}
-use Rattle.drawing.specs.Table.{netIn}
+use Rattle.storage.specs.Columns.{column}
+use Rattle.storage.specs.Entries.{at}
+use Rattle.storage.specs.Drawings.{netIn, Arranged}
+use Rattle.storage.proofs.InColumns.{column-size, columns-whole}
 use Rattle.flow.specs.declared.Flow.{Flow}
 use Rattle.flow.specs.declared.Flow.the-variants.{Cut}
-use Rattle.walking.specs.Arrays.{Drawn, Ordered}
-use Rattle.area.proofs.Marking.{drop-agrees}
 use Rattle.flow.specs.Paths.{pathsIn, LinksIn}
-use Rattle.flow.specs.Answer.{FlowAsked, FlowAnswer}
+use Rattle.flow.specs.Answer.{FlowAsked, FlowLeft, FlowAnswer}
 use Rattle.flow.proofs.Orders.{order-ranked, order-low, no-feeds}
 use Rattle.flow.proofs.Leads.{next-same, prev-same}
 
--- The paths tell the links: arrays of one length with the same paths are the same.
-abbrev pub SameLinks : (inputs nodes : ℕ) (next prev next′ prev′ : List ℕ) → Type 0
-SameLinks inputs nodes next prev next′ prev′ =
-    length next ≡ length next′ → length prev ≡ length prev′ → pathsIn inputs nodes next prev ≡ pathsIn inputs nodes next′ prev′ → (next ≡ next′) × (prev ≡ prev′)
+-- The paths tell the links: where the paths are the same, so are the links.
+abbrev pub SameLinks : (inputs nodes : ℕ) (links links′ : List ℕ) → Type 0
+SameLinks inputs nodes links links′ = pathsIn inputs nodes links ≡ pathsIn inputs nodes links′ → links ≡ links′
 
-whole-same : (n : ℕ) (l m : List ℕ) → length l ≡ length m → ((v : ℕ) → getD (take n l) v 0 ≡ getD (take n m) v 0) → drop n l ≡ drop n m → l ≡ m
-whole-same n l m size early late = ext-getD 0 l m size (λ v inside. by-place v (decLt v n))
-  where
-    by-place : (v : ℕ) → Dec (v < n) → getD l v 0 ≡ getD m v 0
-    by-place v (yes low) = sym (getD-take n l v 0 low) ∙ early v ∙ getD-take n m v 0 low
-    by-place v (no high) = drop-agrees n l m late v (omega arith)
+-- columns of one length with the same entries are the same
+column-one : (n c : ℕ) (l m : List ℕ) → c * n + n ≤ length l → length l ≡ length m → ((v : ℕ) → at (column n c l) v ≡ at (column n c m) v) → column n c l ≡ column n c m
+column-one n c l m long size same =
+    ext-getD 0 (column n c l) (column n c m) (column-size n c l long ∙ sym (column-size n c m (omega arith))) (λ v _. same v)
 
-pub links-one : {inputs nodes k : ℕ} {fan count order : List ℕ} → Drawn inputs nodes k fan count → Ordered (netIn inputs nodes fan count) order →
-    {next prev next′ prev′ : List ℕ} → LinksIn (netIn inputs nodes fan count) nodes next prev → LinksIn (netIn inputs nodes fan count) nodes next′ prev′ →
-    drop nodes next ≡ drop nodes next′ → drop nodes prev ≡ drop nodes prev′ → SameLinks inputs nodes next prev next′ prev′
+pub links-one : {inputs nodes k : ℕ} {fanins order : List ℕ} → Arranged inputs nodes k fanins order → {links₀ links links′ : List ℕ} →
+    5 * nodes ≤ length links₀ → LinksIn (netIn inputs nodes fanins) nodes links → LinksIn (netIn inputs nodes fanins) nodes links′ →
+    FlowLeft nodes links₀ links → FlowLeft nodes links₀ links′ → SameLinks inputs nodes links links′
 unfolding netIn pathsIn
-links-one {inputs} {nodes} {fan = fan} {count = count} {order = order} drawn ordered {next} {prev} {next′} {prev′} a b late-next late-prev size-next size-prev same =
-    let ranked = order-ranked (drawn .bounded) (no-feeds inputs nodes fan count) ordered in
-    let low = order-low (drawn .bounded) (no-feeds inputs nodes fan count) ordered in
-    let fits : 1 ≤ inputs → suc (length order) ≤ nodes = λ some. let size = ordered .size in omega arith in (
-      whole-same nodes next next′ size-next (next-same ranked low a b fits same) late-next,
-      whole-same nodes prev prev′ size-prev (prev-same ranked low a b fits same) late-prev,
-    )
+links-one {inputs} {nodes} {fanins = fanins} {order = order} drawing {links₀} {links} {links′} long a b left left′ same =
+    let ordered = drawing .ordered in
+    let bounded = drawing .drawn .bounded in
+    let ranked = order-ranked bounded (no-feeds inputs nodes fanins) ordered in
+    let low = order-low bounded (no-feeds inputs nodes fanins) ordered in
+    let fits : 1 ≤ inputs → suc (length (take (nodes - inputs) order)) ≤ nodes = λ some. let size = ordered .size in omega arith in
+    let size : length links ≡ length links′ = left .rest .size ∙ sym (left′ .rest .size) in
+    let room : 5 * nodes ≤ length links = omega (arith, left .rest .size) in
+    let next = column-one nodes 0 links links′ (omega arith) size (next-same ranked low a b fits same) in
+    let prev = column-one nodes 1 links links′ (omega arith) size (prev-same ranked low a b fits same) in
+    columns-whole nodes 5 links links′ (by-column next prev) (left .rest .beyond ∙ sym (left′ .rest .beyond))
+  where
+    by-column : column nodes 0 links ≡ column nodes 0 links′ → column nodes 1 links ≡ column nodes 1 links′ → (c : ℕ) → c < 5 → column nodes c links ≡ column nodes c links′
+    by-column next prev zero _ = next
+    by-column next prev (suc zero) _ = prev
+    by-column next prev (suc (suc zero)) _ = left .ins ∙ sym (left′ .ins)
+    by-column next prev (suc (suc (suc zero))) _ = left .outs ∙ sym (left′ .outs)
+    by-column next prev (suc (suc (suc (suc zero)))) _ = left .parent ∙ sym (left′ .parent)
+    by-column next prev (suc (suc (suc (suc (suc c))))) low = absurd (omega arith)
 
 -- one reply, and one content of each buffer; of the links where the paths are the same
-pub record OneAnswer (inputs nodes : ℕ) (r q : Flow) (next′ prev′ ins′ outs′ parent′ leaves′ next″ prev″ ins″ outs″ parent″ leaves″ : List ℕ) : Type 0 where
-  pub links-same : SameLinks inputs nodes next′ prev′ next″ prev″
+pub record OneAnswer (inputs nodes : ℕ) (r q : Flow) (links′ cut′ links″ cut″ : List ℕ) : Type 0 where
+  pub links-same : SameLinks inputs nodes links′ links″
   pub reply : r ≡ q
-  pub leaves-one : leaves′ ≡ leaves″
-  pub in-one : ins′ ≡ ins″
-  pub out-one : outs′ ≡ outs″
-  pub parent-one : parent′ ≡ parent″
+  pub cut-one : cut′ ≡ cut″
 
-module _ {inputs nodes k : ℕ} {fan count order area ends next prev ins outs parent leaves : List ℕ}
-    (asked : FlowAsked inputs nodes k fan count order area ends next prev ins outs parent leaves) where
-  least-one : {list other : List ℕ} → LeastCut (netIn inputs nodes fan count) k (asked .lab) (asked .t) list →
-      LeastCut (netIn inputs nodes fan count) k (asked .lab) (asked .t) other → list ≡ other
+module _ {inputs nodes k : ℕ} {fanins order roles links cut : List ℕ} (asked : FlowAsked inputs nodes k fanins order roles links cut) where
+  least-one : {list other : List ℕ} → LeastCut (netIn inputs nodes fanins) k (asked .lab) (asked .t) list →
+      LeastCut (netIn inputs nodes fanins) k (asked .lab) (asked .t) other → list ≡ other
   least-one {list} {other} a b =
       let same : length list ≡ length other = omega (arith, a .fewest other (b .cut) (b .outside), b .fewest list (a .cut) (a .outside)) in
-      same-cone-same-cut (asked .drawn .bounded) (order-ranked (asked .drawn .bounded) (no-feeds inputs nodes fan count) (asked .ordered)) (asked .marks .gate)
+      let bounded = asked .drawing .drawn .bounded in
+      same-cone-same-cut bounded (order-ranked bounded (no-feeds inputs nodes fanins) (asked .drawing .ordered)) (asked .marks .gate)
       (a .cut) (b .cut) (b .largest list (a .cut) (a .outside) same) (a .largest other (b .cut) (b .outside) (omega arith))
 
-  never : {paths : List (List ℕ)} {list : List ℕ} → Evidence (netIn inputs nodes fan count) k (asked .lab) (asked .t) paths →
-      LeastCut (netIn inputs nodes fan count) k (asked .lab) (asked .t) list → ⊥
+  never : {paths : List (List ℕ)} {list : List ℕ} → Evidence (netIn inputs nodes fanins) k (asked .lab) (asked .t) paths →
+      LeastCut (netIn inputs nodes fanins) k (asked .lab) (asked .t) list → ⊥
   never {list = list} evidence least =
-      evidence-is-tight (asked .marks .never-falls) (asked .drawn .bounded) (asked .marks .gate .below) evidence list (cut-stops (least .cut)) (least .outside)
+      evidence-is-tight (asked .marks .never-falls) (asked .drawing .drawn .bounded) (asked .marks .gate .below) evidence list
+      (cut-stops (least .cut)) (least .outside)
 
-  pub answer-is-one : {r q : Flow} {next′ prev′ ins′ outs′ parent′ leaves′ next″ prev″ ins″ outs″ parent″ leaves″ : List ℕ} →
-      FlowAnswer inputs nodes k fan count area ends next prev ins outs parent leaves r next′ prev′ ins′ outs′ parent′ leaves′ →
-      FlowAnswer inputs nodes k fan count area ends next prev ins outs parent leaves q next″ prev″ ins″ outs″ parent″ leaves″ →
-      OneAnswer inputs nodes r q next′ prev′ ins′ outs′ parent′ leaves′ next″ prev″ ins″ outs″ parent″ leaves″
-  answer-is-one (FlowAnswer.paths e _ links n m i o p l) (FlowAnswer.paths f _ links′ n′ m′ i′ o′ p′ l′) =
+  pub answer-is-one : {r q : Flow} {links′ cut′ links″ cut″ : List ℕ} → FlowAnswer inputs nodes k fanins roles links cut r links′ cut′ →
+      FlowAnswer inputs nodes k fanins roles links cut q links″ cut″ → OneAnswer inputs nodes r q links′ cut′ links″ cut″
+  answer-is-one (FlowAnswer.paths e _ stand left same) (FlowAnswer.paths f _ stand′ left′ same′) =
       record {
-        links-same = links-one (asked .drawn) (asked .ordered) links links′ (n ∙ sym n′) (m ∙ sym m′);
+        links-same = links-one (asked .drawing) (asked .links-long) stand stand′ left left′;
         reply = e ∙ sym f;
-        leaves-one = l ∙ sym l′;
-        in-one = i ∙ sym i′;
-        out-one = o ∙ sym o′;
-        parent-one = p ∙ sym p′;
+        cut-one = same ∙ sym same′;
       }
-  answer-is-one (FlowAnswer.cut size list e size-is least n m i o p l) (FlowAnswer.cut size′ list′ f size-is′ least′ n′ m′ i′ o′ p′ l′) =
-      let same : list ≡ list′ = least-one (least (asked .lab) (asked .t) (asked .marks)) (least′ (asked .lab) (asked .t) (asked .marks)) in
-      let sizes : size ≡ size′ = λ j. record { leaves = (sym size-is ∙ ap length same ∙ size-is′) j } in
+  answer-is-one (FlowAnswer.cut size list e size-is least clear same) (FlowAnswer.cut size′ list′ f size-is′ least′ clear′ same′) =
+      let alike : list ≡ list′ = least-one (least (asked .lab) (asked .t) (asked .marks)) (least′ (asked .lab) (asked .t) (asked .marks)) in
+      let sizes : size ≡ size′ = λ j. record { leaves = (sym size-is ∙ ap length alike ∙ size-is′) j } in
       record {
-        links-same = λ _ _ _. (n ∙ sym n′, m ∙ sym m′);
+        links-same = λ _. clear ∙ sym clear′;
         reply = e ∙ ap Cut sizes ∙ sym f;
-        leaves-one = l ∙ ap (sets leaves 0) same ∙ sym l′;
-        in-one = i ∙ sym i′;
-        out-one = o ∙ sym o′;
-        parent-one = p ∙ sym p′;
+        cut-one = same ∙ ap (sets cut 0) alike ∙ sym same′;
       }
-  answer-is-one (FlowAnswer.paths e evidence _ _ _ _ _ _ _) (FlowAnswer.cut size list f _ least _ _ _ _ _ _) =
+  answer-is-one (FlowAnswer.paths e evidence _ _ _) (FlowAnswer.cut size list f _ least _ _) =
       absurd (never (evidence (asked .lab) (asked .t) (asked .marks)) (least (asked .lab) (asked .t) (asked .marks)))
-  answer-is-one (FlowAnswer.cut size list f _ least _ _ _ _ _ _) (FlowAnswer.paths e evidence _ _ _ _ _ _ _) =
+  answer-is-one (FlowAnswer.cut size list f _ least _ _) (FlowAnswer.paths e evidence _ _ _) =
       absurd (never (evidence (asked .lab) (asked .t) (asked .marks)) (least (asked .lab) (asked .t) (asked .marks)))

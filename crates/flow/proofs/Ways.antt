@@ -1,20 +1,17 @@
 -- The ways into and out of a node, as the code reads them.
 use Prim.Native.Nat.{ℕ, zero, suc, _-_, _≤_, _<_}
 use native.Mathlib.Omega.{arith}
-use mathlib.Core.Path.{_≡_, refl, sym, ap, _∙_}
-use mathlib.Core.Bool.{Bool, true, false, not, cond}
+use mathlib.Core.Path.{_≡_, refl, sym, ap, subst, _∙_}
+use mathlib.Core.Bool.{Bool, true, false, not}
 use mathlib.Core.Logic.{_⊎_, inl, inr, ⊎-elim}
-use mathlib.Core.List.{List}
-use lib.ListN.{getD}
+use mathlib.Core.List.{List, List·Memᴰ}
 use lib.Dec.{eqb}
-use borrow.Author.Tests.{ne-eqb, lt-ltb, le-ltb, eqb-true, eqb-false, not-true, not-false}
-use Rattle.flow.specs.Turns.{at, nodeAt, FaninFound, NoWayIn, NoWayOut, Entered, Left}
-
-pub node-input : (inputs : ℕ) (order : List ℕ) (i : ℕ) → i < inputs → i ≡ nodeAt inputs order i
-node-input inputs order i low = sym (ap (λ (b : Bool). cond b i (getD order (i - inputs) 0)) (lt-ltb i inputs low))
-
-pub node-gate : (inputs : ℕ) (order : List ℕ) (i : ℕ) → inputs ≤ i → getD order (i - inputs) 0 ≡ nodeAt inputs order i
-node-gate inputs order i high = sym (ap (λ (b : Bool). cond b i (getD order (i - inputs) 0)) (le-ltb i inputs high))
+use borrow.Author.Tests.{ne-eqb, eqb-true, eqb-false, not-true, not-false}
+use Rattle.storage.specs.Entries.{at}
+use Rattle.storage.specs.Lists.{sizeAt, entryAt, listAt}
+use Rattle.storage.proofs.InLists.{list-member, list-place}
+use Rattle.storage.specs.Drawings.{Fed}
+use Rattle.flow.specs.Turns.{FaninFound, NoWayIn, NoWayOut, Entered, Left}
 
 -- a test for 0
 nonzero : (x : ℕ) → ((x ≡ 0) × (not (eqb x 0) ≡ false)) ⊎ ((1 ≤ x) × (not (eqb x 0) ≡ true))
@@ -46,23 +43,35 @@ left-back next ins v to x e high f =
 
 -- In
 
-pub enter-fanin : (inputs : ℕ) (fan count next outs : List ℕ) (v : ℕ) {r : ℕ} → FaninFound fan count outs v r → (r ≡ 0 → ⊥) →
-    Entered inputs fan count next outs v r
-enter-fanin inputs fan count next outs v (FaninFound.none e _) some = absurd (some e)
-enter-fanin inputs fan count next outs v (FaninFound.some i short e found) some = Entered.fanin i e short found
+module _ {fanins : List ℕ} {v nodes : ℕ} (fed : Fed fanins v nodes) where
+  pub entry-feeds : (i : ℕ) {u : ℕ} → i < sizeAt fanins v → u ≡ entryAt fanins v i → List·Memᴰ u (listAt fanins v)
+  entry-feeds i low e = subst (λ (w : ℕ). List·Memᴰ w (listAt fanins v)) (sym e) (list-member fanins v (fed .long) (fed .six) i low)
 
-pub enter-none : (inputs : ℕ) (fan count next outs : List ℕ) (v : ℕ) {r : ℕ} → FaninFound fan count outs v r → r ≡ 0 → inputs ≤ v →
-    (1 ≤ at next v → at outs v ≡ 0) → Entered inputs fan count next outs v 0
-enter-none inputs fan count next outs v (FaninFound.none _ none) e high own =
+  pub entry-known : (i : ℕ) {u : ℕ} → i < sizeAt fanins v → u ≡ entryAt fanins v i → u < nodes
+  entry-known i {u} low e = fed .known u (entry-feeds i low e)
+
+  -- no entry that was passed was found, so no fanin was
+  pub none-passed : (outs : List ℕ) → ((i : ℕ) → i < sizeAt fanins v → at outs (entryAt fanins v i) ≡ 0) → FaninFound fanins outs v 0
+  none-passed outs none =
+      FaninFound.none refl (λ u feeds. let (i, low, e) = list-place fanins v (fed .long) (fed .six) feeds in sym (ap (at outs) e) ∙ none i low)
+
+pub enter-fanin : (inputs : ℕ) (fanins next outs : List ℕ) (v : ℕ) {r : ℕ} → FaninFound fanins outs v r → (r ≡ 0 → ⊥) →
+    Entered inputs fanins next outs v r
+enter-fanin inputs fanins next outs v (FaninFound.none e _) some = absurd (some e)
+enter-fanin inputs fanins next outs v (FaninFound.some u feeds e found) some = Entered.fanin u e feeds found
+
+pub enter-none : (inputs : ℕ) (fanins next outs : List ℕ) (v : ℕ) {r : ℕ} → FaninFound fanins outs v r → r ≡ 0 → inputs ≤ v →
+    (1 ≤ at next v → at outs v ≡ 0) → Entered inputs fanins next outs v 0
+enter-none inputs fanins next outs v (FaninFound.none _ none) e high own =
     Entered.none refl (record { source = λ low. omega arith; own = own; fanin = none })
-enter-none inputs fan count next outs v (FaninFound.some i short f found) e high own = absurd (omega arith)
+enter-none inputs fanins next outs v (FaninFound.some u feeds f found) e high own = absurd (omega arith)
 
-pub entered-none : {inputs : ℕ} {fan count next outs : List ℕ} {v r : ℕ} → Entered inputs fan count next outs v r → r ≡ 0 →
-    NoWayIn inputs fan count next outs v
+pub entered-none : {inputs : ℕ} {fanins next outs : List ℕ} {v r : ℕ} → Entered inputs fanins next outs v r → r ≡ 0 →
+    NoWayIn inputs fanins next outs v
 entered-none (Entered.none _ none) e = none
 entered-none (Entered.source f _) e = absurd (omega arith)
 entered-none (Entered.own f _ _) e = absurd (omega arith)
-entered-none (Entered.fanin i f _ _) e = absurd (omega arith)
+entered-none (Entered.fanin u f _ _) e = absurd (omega arith)
 
 pub left-none : {next ins : List ℕ} {v : ℕ} {r : Bool} → Left next ins v r → r ≡ false → NoWayOut next ins v
 left-none (Left.none _ none) e = none

@@ -1,54 +1,62 @@
 -- What the augmenting asks and leaves.
-use Prim.Native.Nat.{ℕ, suc, _≤_, _<_}
+use Prim.Native.Nat.{ℕ, suc, _*_, _≤_, _<_}
 use mathlib.Core.Path.{_≡_}
 use mathlib.Core.Bool.{Bool, true, false}
 use mathlib.Core.List.{List}
 use lib.ListN.{length}
-use Rattle.drawing.specs.Table.{netIn}
-use Rattle.flow.specs.Numbers.{sum, Upd}
+use Rattle.storage.specs.Drawings.{netIn}
+use Rattle.storage.specs.Entries.{Upd, at}
+use Rattle.storage.specs.Roles.{areaIn, endsIn}
+use Rattle.flow.specs.Numbers.{sum}
+use Rattle.flow.specs.Links.{nextIn, prevIn, noLink, edgeOfFlow, linkTo}
 use Rattle.flow.specs.Flow.{one, Freed, Carries}
-use Rattle.flow.specs.Turns.{at, Searched}
+use Rattle.flow.specs.Cells.{PathsKept, StatesKept}
+use Rattle.flow.specs.Turns.{Searched}
 use Rattle.flow.specs.Sweeps.{Field, AllSettled}
 
 -- v's out-state can be freed: v does not go to the sink.
-pub record FreeAsked (next prev : List ℕ) (v : ℕ) : Type 0 where
-  pub next-low : v < length next
-  pub prev-low : v < length prev
-  pub no-sink : at next v ≡ 1 → ⊥
-  pub leads : (g : ℕ) → at next v ≡ suc (suc g) → g < length prev
+pub record FreeAsked (nodes : ℕ) (links : List ℕ) (v : ℕ) : Type 0 where
+  pub small : nodes ≤ 32767
+  pub long : 5 * nodes ≤ length links
+  pub node : v < nodes
+  pub no-sink : at (nextIn nodes links) v ≡ edgeOfFlow → ⊥
+  pub leads : (g : ℕ) → at (nextIn nodes links) v ≡ linkTo g → g < nodes
 
-pub record StepAsked (next prev : List ℕ) (loose v : ℕ) : Type 0 where
-  pub free : FreeAsked next prev v
-  pub loose-next : loose < length next
-  pub loose-prev : loose < length prev
-  pub small : length next ≤ 32767
+pub record StepAsked (nodes : ℕ) (links : List ℕ) (loose v : ℕ) : Type 0 where
+  pub free : FreeAsked nodes links v
+  pub loose-node : loose < nodes
 
 -- One step back from a loose node: v's out-state was freed, and v was linked to the loose node; or v is the loose node itself, and was dropped.
 pub data Stepped (next prev : ℕ → ℕ) (loose v r : ℕ) (next′ prev′ : ℕ → ℕ) : Type 0 where
-  dropped : (m q : ℕ → ℕ) → v ≡ loose → Freed next prev v r m q → Upd m loose 0 next′ → Upd q loose 0 prev′ → Stepped next prev loose v r next′ prev′
-  linked : (m q : ℕ → ℕ) → (v ≡ loose → ⊥) → Freed next prev v r m q → Upd m v (suc (suc loose)) next′ → Upd q loose (suc (suc v)) prev′ →
+  dropped : (m q : ℕ → ℕ) → v ≡ loose → Freed next prev v r m q → Upd m loose noLink next′ → Upd q loose noLink prev′ →
+      Stepped next prev loose v r next′ prev′
+  linked : (m q : ℕ → ℕ) → (v ≡ loose → ⊥) → Freed next prev v r m q → Upd m v (linkTo loose) next′ → Upd q loose (linkTo v) prev′ →
       Stepped next prev loose v r next′ prev′
 
--- The flow that stands in the arrays, of `number` paths.
-pub record FlowIn (inputs nodes : ℕ) (fan count area ends next prev : List ℕ) (number : ℕ) : Type 0 where
-  pub next-long : length next ≡ nodes
-  pub prev-long : length prev ≡ nodes
-  pub carries : Carries (netIn inputs nodes fan count) (at area) (at ends) (at next) (at prev) number
+-- The same over the array, where what the search found is as before.
+pub record FreedIn (nodes : ℕ) (links : List ℕ) (v r : ℕ) (links′ : List ℕ) : Type 0 where
+  pub stored : Freed (at (nextIn nodes links)) (at (prevIn nodes links)) v r (at (nextIn nodes links′)) (at (prevIn nodes links′))
+  pub kept : StatesKept nodes links links′
+
+pub record SteppedIn (nodes : ℕ) (links : List ℕ) (loose v r : ℕ) (links′ : List ℕ) : Type 0 where
+  pub stored : Stepped (at (nextIn nodes links)) (at (prevIn nodes links)) loose v r (at (nextIn nodes links′)) (at (prevIn nodes links′))
+  pub kept : StatesKept nodes links links′
+
+-- The flow that stands in the array, of `number` paths.
+pub record FlowIn (inputs nodes : ℕ) (fanins roles links : List ℕ) (number : ℕ) : Type 0 where
+  pub long : 5 * nodes ≤ length links
+  pub carries : Carries (netIn inputs nodes fanins) (at (areaIn roles)) (at (endsIn roles)) (at (nextIn nodes links)) (at (prevIn nodes links)) number
 
 -- how many paths start
-abbrev pub startsOf : (nodes : ℕ) (prev : List ℕ) → ℕ
-startsOf nodes prev = sum (λ v. one (at prev v)) nodes
+abbrev pub startsOf : (nodes : ℕ) (links : List ℕ) → ℕ
+startsOf nodes links = sum (λ v. one (at (prevIn nodes links) v)) nodes
 
-pub record RoundAsked (inputs nodes : ℕ) (fan count order area ends next prev ins outs parent : List ℕ) : Type 0 where
-  pub field : Field inputs nodes fan count order area ends
-  pub flow : FlowIn inputs nodes fan count area ends next prev (startsOf nodes prev)
-  pub in-long : length ins ≡ nodes
-  pub out-long : length outs ≡ nodes
-  pub parent-long : length parent ≡ nodes
+pub record RoundAsked (inputs nodes : ℕ) (fanins order roles links : List ℕ) : Type 0 where
+  pub field : Field inputs nodes fanins order roles
+  pub flow : FlowIn inputs nodes fanins roles links (startsOf nodes links)
 
 -- A round adds a path, or the search ended with all settled and the flow is as before.
-pub data RoundDone (inputs nodes : ℕ) (fan count area ends next prev : List ℕ) (r : Bool) (next′ prev′ ins outs parent : List ℕ) : Type 0 where
-  more : r ≡ true → FlowIn inputs nodes fan count area ends next′ prev′ (suc (startsOf nodes prev)) → length ins ≡ nodes → length outs ≡ nodes →
-      length parent ≡ nodes → RoundDone inputs nodes fan count area ends next prev r next′ prev′ ins outs parent
-  full : r ≡ false → next′ ≡ next → prev′ ≡ prev → (last : ℕ) → Searched inputs nodes fan count area next ins outs parent last →
-      AllSettled inputs nodes fan count area ends next ins outs → RoundDone inputs nodes fan count area ends next prev r next′ prev′ ins outs parent
+pub data RoundDone (inputs nodes : ℕ) (fanins roles links : List ℕ) (r : Bool) (links′ : List ℕ) : Type 0 where
+  more : r ≡ true → FlowIn inputs nodes fanins roles links′ (suc (startsOf nodes links)) → RoundDone inputs nodes fanins roles links r links′
+  full : (last : ℕ) → r ≡ false → PathsKept nodes links links′ → Searched inputs nodes fanins roles links′ last →
+      AllSettled inputs nodes fanins roles links′ → RoundDone inputs nodes fanins roles links r links′

@@ -1,7 +1,9 @@
 pub mod Numbers
+pub mod Links
 pub mod Flow
 pub mod Area
 pub mod Paths
+pub mod Cells
 pub mod Turns
 pub mod Sweeps
 pub mod Augments

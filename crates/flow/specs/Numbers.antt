@@ -1,6 +1,5 @@
--- Words on functions of numbers: sums, stores, the numbers that pass a test.
+-- Words on functions of numbers: sums, and the numbers that pass a test.
 use Prim.Native.Nat.{ℕ, zero, suc, _+_}
-use mathlib.Core.Path.{_≡_}
 use mathlib.Core.Bool.{Bool, cond}
 use mathlib.Core.List.{List, [], _∷_, _++_}
 
@@ -13,8 +12,3 @@ sum f (suc n) = sum f n + f n
 unfoldable pub those : (ℕ → Bool) → ℕ → List ℕ
 those test zero = []
 those test (suc n) = those test n ++ cond (test n) (n ∷ []) []
-
--- g is f after x was stored at i
-pub record Upd (f : ℕ → ℕ) (i x : ℕ) (g : ℕ → ℕ) : Type 0 where
-  pub here : g i ≡ x
-  pub there : (j : ℕ) → (j ≡ i → ⊥) → g j ≡ f j

@@ -1,50 +1,49 @@
 -- What the rounds ask and leave, and how leaves are written.
-use Prim.Native.Nat.{ℕ, suc, _≤_, _<_}
+use Prim.Native.Nat.{ℕ, suc, _*_, _≤_, _<_}
 use mathlib.Core.Path.{_≡_}
-use mathlib.Core.Bool.{true, false}
+use mathlib.Core.Bool.{Bool, true, false}
 use mathlib.Core.List.{List}
 use lib.ListN.{length, set}
+use Rattle.storage.specs.Entries.{at}
 use Rattle.flow.specs.declared.rounds.Outcome.{Outcome}
 use Rattle.flow.specs.declared.rounds.Outcome.the-variants.{Many, Full}
 use Rattle.flow.specs.Numbers.{those}
+use Rattle.flow.specs.Links.{insIn, outsIn}
 use Rattle.flow.specs.Flow.{isLeaf}
-use Rattle.flow.specs.Turns.{at, Searched}
+use Rattle.flow.specs.Turns.{Searched}
 use Rattle.flow.specs.Sweeps.{Field, AllSettled}
 use Rattle.flow.specs.Augments.{FlowIn}
 
-pub record RunAsked (inputs nodes k : ℕ) (fan count order area ends next prev ins outs parent : List ℕ) : Type 0 where
-  pub field : Field inputs nodes fan count order area ends
+pub record RunAsked (inputs nodes k : ℕ) (fanins order roles links : List ℕ) : Type 0 where
+  pub field : Field inputs nodes fanins order roles
   pub k-small : k ≤ 6
-  pub next-long : length next ≡ nodes
-  pub prev-long : length prev ≡ nodes
-  pub in-long : length ins ≡ nodes
-  pub out-long : length outs ≡ nodes
-  pub parent-long : length parent ≡ nodes
+  pub long : 5 * nodes ≤ length links
 
 -- K + 1 paths were found, or the flow is full with fewer, and all is settled.
-pub data Ran (inputs nodes k : ℕ) (fan count area ends : List ℕ) (r : Outcome) (next prev ins outs parent : List ℕ) : Type 0 where
-  many : r ≡ Many → FlowIn inputs nodes fan count area ends next prev (suc k) → length ins ≡ nodes → length outs ≡ nodes → length parent ≡ nodes →
-      Ran inputs nodes k fan count area ends r next prev ins outs parent
-  full : (number last : ℕ) → r ≡ Full number → number ≤ k → FlowIn inputs nodes fan count area ends next prev number →
-      Searched inputs nodes fan count area next ins outs parent last → AllSettled inputs nodes fan count area ends next ins outs →
-      Ran inputs nodes k fan count area ends r next prev ins outs parent
+pub data Ran (inputs nodes k : ℕ) (fanins roles : List ℕ) (r : Outcome) (links : List ℕ) : Type 0 where
+  many : r ≡ Many → FlowIn inputs nodes fanins roles links (suc k) → Ran inputs nodes k fanins roles r links
+  full : (number last : ℕ) → r ≡ Full number → number ≤ k → FlowIn inputs nodes fanins roles links number →
+      Searched inputs nodes fanins roles links last → AllSettled inputs nodes fanins roles links → Ran inputs nodes k fanins roles r links
 
--- the leaves that a search without an end leaves in the arrays
-abbrev pub leavesIn : (nodes : ℕ) (ins outs : List ℕ) → List ℕ
-leavesIn nodes ins outs = those (λ v. isLeaf (at ins v) (at outs v)) nodes
+-- whether v is one of the leaves that a search without an end leaves, and all of them
+abbrev pub leafIn : (nodes : ℕ) (links : List ℕ) (v : ℕ) → Bool
+leafIn nodes links v = isLeaf (at (insIn nodes links) v) (at (outsIn nodes links) v)
+
+abbrev pub leavesIn : (nodes : ℕ) (links : List ℕ) → List ℕ
+leavesIn nodes links = those (leafIn nodes links) nodes
 
 -- v was written as the j-th leaf, if it is one
-pub data LeafPut (ins outs : List ℕ) (v j : ℕ) (leaves : List ℕ) (r : ℕ) (leaves′ : List ℕ) : Type 0 where
-  put : isLeaf (at ins v) (at outs v) ≡ true → r ≡ suc j → leaves′ ≡ set leaves j v → LeafPut ins outs v j leaves r leaves′
-  none : isLeaf (at ins v) (at outs v) ≡ false → r ≡ j → leaves′ ≡ leaves → LeafPut ins outs v j leaves r leaves′
+pub data LeafPut (nodes : ℕ) (links : List ℕ) (v j : ℕ) (cut : List ℕ) (r : ℕ) (cut′ : List ℕ) : Type 0 where
+  put : leafIn nodes links v ≡ true → r ≡ suc j → cut′ ≡ set cut j v → LeafPut nodes links v j cut r cut′
+  none : leafIn nodes links v ≡ false → r ≡ j → cut′ ≡ cut → LeafPut nodes links v j cut r cut′
 
-pub record LeafAsked (ins outs : List ℕ) (v j : ℕ) (leaves : List ℕ) : Type 0 where
-  pub in-low : v < length ins
-  pub out-low : v < length outs
-  pub room : isLeaf (at ins v) (at outs v) ≡ true → j < length leaves
-
-pub record LeavesAsked (nodes : ℕ) (ins outs leaves : List ℕ) : Type 0 where
-  pub in-long : length ins ≡ nodes
-  pub out-long : length outs ≡ nodes
+pub record LeafAsked (nodes : ℕ) (links : List ℕ) (v j : ℕ) (cut : List ℕ) : Type 0 where
   pub small : nodes ≤ 32767
-  pub room : length (leavesIn nodes ins outs) ≤ length leaves
+  pub long : 5 * nodes ≤ length links
+  pub node : v < nodes
+  pub room : leafIn nodes links v ≡ true → j < length cut
+
+pub record LeavesAsked (nodes : ℕ) (links cut : List ℕ) : Type 0 where
+  pub small : nodes ≤ 32767
+  pub long : 5 * nodes ≤ length links
+  pub room : length (leavesIn nodes links) ≤ length cut

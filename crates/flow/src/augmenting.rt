@@ -1,80 +1,80 @@
 // One more path: from the end that the search reached, back along the way on which it was reached, links are stored and taken away.
-use crate::Size;
+use crate::cells::EDGE_OF_FLOW;
+use crate::cells::FIRST_NODE;
+use crate::cells::NEXT;
+use crate::cells::NO_LINK;
+use crate::cells::PARENT;
+use crate::cells::PREV;
 use crate::cells::at;
 use crate::cells::put;
 use crate::searching::Sought;
 use crate::searching::search;
-use drawing::Node;
-ghost use Rattle.flow.specs.Flow.{Freed};
-ghost use Rattle.flow.specs.Turns.{at as cell};
-ghost use Rattle.flow.specs.Augments.{FreeAsked, StepAsked, Stepped, RoundAsked, RoundDone};
+use storage::Node;
+use storage::Numbers;
+ghost use Prim.Native.Nat.{_*_};
+ghost use Rattle.storage.specs.Entries.{Beyond};
+ghost use Rattle.flow.specs.Augments.{FreeAsked, FreedIn, StepAsked, SteppedIn, RoundAsked, RoundDone};
 
 // Sends v to the sink. The answer starts at the source then: v itself, where it was unused, or the node that it fed.
-fn free(next: &mut [u16], prev: &mut [u16], v: Node) -> Node
-    requires { ⌜ FreeAsked (now next) (now prev) (v .id) ⌝ }
-    ensures { λ r. ⌜ Freed (cell (now (next .entry))) (cell (now (prev .entry))) (v .id) (r .id) (cell (now (next .exit))) (cell (now (prev .exit))) ⌝ }
+fn free(nodes: usize, links: &mut [u16], v: Node) -> Node
+    requires { ⌜ FreeAsked nodes (now links) (v .id) ⌝ }
+    ensures { λ r. ⌜ FreedIn nodes (now (links .entry)) (v .id) (r .id) (now (links .exit)) ⌝ }
 {
-    let to = at(next, v);
-    put(next, v, 1);
-    if to == 0 {
-        put(prev, v, 1);
+    let to = at(links, nodes, NEXT, v);
+    put(links, nodes, NEXT, v, EDGE_OF_FLOW);
+    if to == NO_LINK {
+        put(links, nodes, PREV, v, EDGE_OF_FLOW);
         return v;
     }
-    let g = Node { id: to - 2 };
-    put(prev, g, 1);
+    let g = Node {
+        id: to - FIRST_NODE,
+    };
+    put(links, nodes, PREV, g, EDGE_OF_FLOW);
     g
 }
 
 // The loose node was reached from v's out-state: v is freed and feeds it, or drops out where v is the loose node itself.
-fn step_back(next: &mut [u16], prev: &mut [u16], loose: Node, v: Node) -> Node
-    requires { ⌜ StepAsked (now next) (now prev) (loose .id) (v .id) ⌝ }
-    ensures { λ r. ⌜ Stepped (cell (now (next .entry))) (cell (now (prev .entry))) (loose .id) (v .id) (r .id) (cell (now (next .exit))) (cell (now (prev .exit))) ⌝ }
+fn step_back(nodes: usize, links: &mut [u16], loose: Node, v: Node) -> Node
+    requires { ⌜ StepAsked nodes (now links) (loose .id) (v .id) ⌝ }
+    ensures { λ r. ⌜ SteppedIn nodes (now (links .entry)) (loose .id) (v .id) (r .id) (now (links .exit)) ⌝ }
 {
-    let freed = free(next, prev, v);
+    let freed = free(nodes, links, v);
     if v.id == loose.id {
-        put(next, loose, 0);
-        put(prev, loose, 0);
+        put(links, nodes, NEXT, loose, NO_LINK);
+        put(links, nodes, PREV, loose, NO_LINK);
         return freed;
     }
-    put(next, v, loose.id + 2);
-    put(prev, loose, v.id + 2);
+    put(links, nodes, NEXT, v, loose.id + FIRST_NODE);
+    put(links, nodes, PREV, loose, v.id + FIRST_NODE);
     freed
 }
 
 // One round: a search, and the path that it found. Answers whether there was one.
 pub fn add_path(
-    fan: &[u16],
-    count: &[u8],
-    inputs: usize,
-    nodes: usize,
+    numbers: Numbers,
+    fanins: &[u16],
     order: &[u16],
-    area: &[u8],
-    ends: &[u8],
-    next: &mut [u16],
-    prev: &mut [u16],
-    ins: &mut [u16],
-    outs: &mut [u16],
-    parent: &mut [u16],
+    roles: &[u8],
+    links: &mut [u16],
 ) -> bool
-    requires { ⌜ RoundAsked inputs nodes (now fan) (now count) (now order) (now area) (now ends) (now next) (now prev) (now ins) (now outs) (now parent) ⌝ }
-    ensures { λ r. ⌜ RoundDone inputs nodes (now (fan .entry)) (now (count .entry)) (now (area .entry)) (now (ends .entry)) (now (next .entry)) (now (prev .entry)) r (now (next .exit)) (now (prev .exit)) (now (ins .exit)) (now (outs .exit)) (now (parent .exit)) ⌝ }
+    requires { ⌜ RoundAsked (numbers .inputs) (numbers .nodes) (now fanins) (now order) (now roles) (now links) ⌝ }
+    ensures { λ r. ⌜ RoundDone (numbers .inputs) (numbers .nodes) (now (fanins .entry)) (now (roles .entry)) (now (links .entry)) r (now (links .exit)) ⌝ }
+    ensures { λ _. ⌜ Beyond (5 * numbers .nodes) (now (links .entry)) (now (links .exit)) ⌝ }
 {
-    let size = Size {
-        inputs: inputs,
-        nodes: nodes,
-    };
-    let sought = search(fan, count, size, order, area, ends, next, ins, outs, parent);
+    let sought = search(numbers, fanins, order, roles, links);
     let Sought::End(end) = sought else {
         return false;
     };
-    let first = free(next, prev, end);
+    let first = free(numbers.nodes, links, end);
     let mut loose = first.id;
-    let mut from = at(parent, first);
-    while from != 1 {
-        let v = Node { id: from - 2 };
-        let freed = step_back(next, prev, Node { id: loose }, v);
+    let mut from = at(links, numbers.nodes, PARENT, first);
+    while from != EDGE_OF_FLOW {
+        let v = Node {
+            id: from - FIRST_NODE,
+        };
+        let freed = step_back(numbers.nodes, links, Node { id: loose }, v);
         loose = freed.id;
-        from = at(parent, freed);
+        from = at(links, numbers.nodes, PARENT, freed);
     }
     true
 }

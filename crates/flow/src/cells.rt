@@ -1,40 +1,59 @@
-// Thin readers and writers of slices with one entry a node.
-use drawing::Node;
+// The links of the flow, in columns, and the codes of their entries.
+use storage::Node;
+use storage::columns;
 ghost use mathlib.Core.Path.{_≡_};
-ghost use Prim.Native.Nat.{_<_};
-ghost use lib.ListN.{length, getD, set, replicate};
-ghost use lib.Dec.{eqb};
+ghost use lib.ListN.{getD};
+ghost use Rattle.storage.specs.Columns.{column as columnOf};
+ghost use Rattle.flow.specs.Cells.{CellIn, Stored, ColumnsIn, Cleared};
 
-pub fn at(s: &[u16], v: Node) -> u16
-    requires { ⌜ v .id < length (now s) ⌝ }
-    ensures { λ r. ⌜ r ≡ getD (now (s .entry)) (v .id) 0 ⌝ }
+// The columns: where paths lead, and what the search for one more found.
+pub const NEXT: usize = 0;
+
+pub const PREV: usize = 1;
+
+pub const INS: usize = 2;
+
+pub const OUTS: usize = 3;
+
+pub const PARENT: usize = 4;
+
+// What a link says: nothing, the source or the sink, or a node by its id on top of the first one's code.
+pub const NO_LINK: u16 = 0;
+
+pub const EDGE_OF_FLOW: u16 = 1;
+
+pub const FIRST_NODE: u16 = 2;
+
+// A state that was not found has this for its number.
+pub const NOT_FOUND: u16 = 0;
+
+// A column's start is made a slice of its own, so that a loop finds it but once.
+pub fn at(links: &[u16], nodes: usize, column: usize, v: Node) -> u16
+    requires { ⌜ CellIn nodes column (v .id) (now links) ⌝ }
+    ensures { λ r. ⌜ r ≡ getD (columnOf nodes column (now (links .entry))) (v .id) 0 ⌝ }
 {
+    let start = column * nodes;
+    let part = &links[start..];
     let i = v.id as usize;
-    s[i]
+    part[i]
 }
 
-pub fn is_marked(s: &[u8], v: Node) -> bool
-    requires { ⌜ v .id < length (now s) ⌝ }
-    ensures { λ r. ⌜ r ≡ eqb (getD (now (s .entry)) (v .id) 0) 1 ⌝ }
+pub fn put(links: &mut [u16], nodes: usize, column: usize, v: Node, x: u16)
+    requires { ⌜ CellIn nodes column (v .id) (now links) ⌝ }
+    ensures { λ _. ⌜ Stored nodes column (v .id) x (now (links .entry)) (now (links .exit)) ⌝ }
 {
+    let start = column * nodes;
+    let part = &mut links[start..];
     let i = v.id as usize;
-    s[i] == 1
+    part[i] = x;
 }
 
-pub fn put(s: &mut [u16], v: Node, x: u16)
-    requires { ⌜ v .id < length (now s) ⌝ }
-    ensures { λ _. ⌜ now (s .exit) ≡ set (now (s .entry)) (v .id) x ⌝ }
+// Clears columns that lie side by side: one run of stores.
+pub fn clear(links: &mut [u16], nodes: usize, first: usize, many: usize)
+    requires { ⌜ ColumnsIn nodes first many (now links) ⌝ }
+    ensures { λ _. ⌜ Cleared nodes first many (now (links .entry)) (now (links .exit)) ⌝ }
 {
-    let i = v.id as usize;
-    s[i] = x;
-}
-
-pub fn clear(s: &mut [u16])
-    ensures { λ _. ⌜ now (s .exit) ≡ replicate (length (now (s .entry))) 0 ⌝ }
-{
-    let mut i = 0;
-    while i < s.len() {
-        s[i] = 0;
-        i += 1;
-    }
+    let start = first * nodes;
+    let size = many * nodes;
+    columns::clear(&mut links[start..], size);
 }

@@ -1,13 +1,22 @@
 // Reads the paths off the links: the i-th start, and from there on as far as `next` leads.
-use drawing::Node;
+use crate::cells::EDGE_OF_FLOW;
+use crate::cells::FIRST_NODE;
+use crate::cells::INS;
+use crate::cells::NEXT;
+use crate::cells::NO_LINK;
+use crate::cells::PREV;
+use crate::cells::at;
+use storage::Node;
 ghost use mathlib.Core.Path.{_≡_};
 ghost use mathlib.Core.Bool.{cond};
-ghost use Prim.Native.Nat.{_≤_, _<_};
-ghost use lib.ListN.{length, getD};
+ghost use Prim.Native.Nat.{_*_, _≤_, _<_};
+ghost use lib.ListN.{length};
 ghost use lib.Dec.{eqb};
-ghost use Rattle.flow.specs.Turns.{at as cell};
+ghost use Rattle.storage.specs.Entries.{at as cell};
+ghost use Rattle.flow.specs.Links.{nextIn, prevIn};
+ghost use Rattle.flow.specs.Cells.{CellIn};
 ghost use Rattle.flow.specs.Paths.{follow};
-ghost use Rattle.flow.specs.Reads.{StartRead, Listed};
+ghost use Rattle.flow.specs.Reads.{ReadAsked, StartRead, Listed};
 
 // Where a path starts, if there are so many.
 pub enum Start {
@@ -16,28 +25,28 @@ pub enum Start {
 }
 
 // How many paths start at v: one or none.
-fn starts_at(prev: &[u16], v: usize) -> usize
-    requires { ⌜ v < length (now prev) ⌝ }
-    ensures { λ r. ⌜ r ≡ cond (eqb (getD (now (prev .entry)) v 0) 1) 1 0 ⌝ }
+fn starts_at(links: &[u16], nodes: usize, v: Node) -> usize
+    requires { ⌜ CellIn nodes 1 (v .id) (now links) ⌝ }
+    ensures { λ r. ⌜ r ≡ cond (eqb (cell (prevIn nodes (now (links .entry))) (v .id)) 1) 1 0 ⌝ }
 {
-    if prev[v] == 1 {
+    if at(links, nodes, PREV, v) == EDGE_OF_FLOW {
         return 1;
     }
     0
 }
 
 // The i-th of the inputs at which a path starts.
-pub fn path_start(prev: &[u16], inputs: usize, i: usize) -> Start
-    requires { ⌜ inputs ≤ length (now prev) ⌝ }
-    requires { ⌜ inputs ≤ 32767 ⌝ }
-    ensures { λ r. ⌜ StartRead (now (prev .entry)) inputs i r ⌝ }
+pub fn path_start(links: &[u16], inputs: usize, nodes: usize, i: usize) -> Start
+    requires { ⌜ ReadAsked inputs nodes (now links) ⌝ }
+    ensures { λ r. ⌜ StartRead inputs nodes (now (links .entry)) i r ⌝ }
 {
     let mut seen: usize = 0;
     let mut v: usize = 0;
     while v < inputs {
-        let more = seen + starts_at(prev, v);
+        let start = Node { id: v as u16 };
+        let more = seen + starts_at(links, nodes, start);
         if i < more {
-            return Start::At(Node { id: v as u16 });
+            return Start::At(start);
         }
         seen = more;
         v += 1;
@@ -45,32 +54,37 @@ pub fn path_start(prev: &[u16], inputs: usize, i: usize) -> Start
     Start::Missing
 }
 
-// The link from v on; a node beyond the array has none.
-fn link_of(next: &[u16], v: u16) -> u16
-    ensures { λ r. ⌜ r ≡ getD (now (next .entry)) v 0 ⌝ }
+// The link from v on; a node beyond the drawing has none.
+fn link_of(links: &[u16], nodes: usize, v: Node) -> u16
+    requires { ⌜ nodes ≤ 32767 ⌝ }
+    requires { ⌜ 5 * nodes ≤ length (now links) ⌝ }
+    ensures { λ r. ⌜ r ≡ cell (nextIn nodes (now (links .entry))) (v .id) ⌝ }
 {
-    let i = v as usize;
-    if i < next.len() {
-        return next[i];
+    let i = v.id as usize;
+    if i < nodes {
+        return at(links, nodes, NEXT, v);
     }
-    0
+    NO_LINK
 }
 
 // Writes the ids from `first` on as far as `next` leads, and answers how many they are.
-pub fn write_path(next: &[u16], first: Node, path: &mut [u16]) -> usize
-    requires { ⌜ length (now next) ≤ length (now path) ⌝ }
-    ensures { λ r. ⌜ Listed (follow (cell (now (next .entry))) (length (now (next .entry))) (first .id)) (now (path .entry)) r (now (path .exit)) ⌝ }
+pub fn write_path(links: &mut [u16], nodes: usize, first: Node) -> usize
+    requires { ⌜ nodes ≤ 32767 ⌝ }
+    requires { ⌜ 5 * nodes ≤ length (now links) ⌝ }
+    ensures { λ r. ⌜ Listed (follow (cell (nextIn nodes (now (links .entry)))) nodes (first .id)) nodes (now (links .entry)) r (now (links .exit)) ⌝ }
 {
+    let start = INS * nodes;
     let mut v = first.id;
     let mut j: usize = 0;
-    while j < next.len() {
-        path[j] = v;
+    while j < nodes {
+        let place = start + j;
+        links[place] = v;
         j += 1;
-        let to = link_of(next, v);
-        if to < 2 {
+        let to = link_of(links, nodes, Node { id: v });
+        if to < FIRST_NODE {
             return j;
         }
-        v = to - 2;
+        v = to - FIRST_NODE;
     }
     j
 }

@@ -1,12 +1,17 @@
 // The rounds: path after path, until there are K + 1 or the flow is full; and the leaves of a full flow.
 use crate::augmenting::add_path;
+use crate::cells::INS;
+use crate::cells::NEXT;
+use crate::cells::NOT_FOUND;
+use crate::cells::OUTS;
 use crate::cells::at;
 use crate::cells::clear;
-use drawing::CutSize;
-use drawing::Node;
+use storage::Node;
+use storage::Numbers;
 ghost use mathlib.Core.Path.{_≡_};
-ghost use Prim.Native.Nat.{_<_};
+ghost use Prim.Native.Nat.{_*_};
 ghost use lib.Seq.{sets};
+ghost use Rattle.storage.specs.Entries.{Beyond};
 ghost use Rattle.flow.specs.Rounds.{RunAsked, Ran, leavesIn, LeafPut, LeafAsked, LeavesAsked};
 
 // How the rounds end: with K + 1 paths, or full with fewer.
@@ -16,42 +21,22 @@ pub enum Outcome {
 }
 
 pub fn run(
-    fan: &[u16],
-    count: &[u8],
-    inputs: usize,
-    nodes: usize,
-    k: CutSize,
+    numbers: Numbers,
+    fanins: &[u16],
     order: &[u16],
-    area: &[u8],
-    ends: &[u8],
-    next: &mut [u16],
-    prev: &mut [u16],
-    ins: &mut [u16],
-    outs: &mut [u16],
-    parent: &mut [u16],
+    roles: &[u8],
+    links: &mut [u16],
 ) -> Outcome
-    requires { ⌜ RunAsked inputs nodes (k .leaves) (now fan) (now count) (now order) (now area) (now ends) (now next) (now prev) (now ins) (now outs) (now parent) ⌝ }
-    ensures { λ r. ⌜ Ran inputs nodes (k .leaves) (now (fan .entry)) (now (count .entry)) (now (area .entry)) (now (ends .entry)) r (now (next .exit)) (now (prev .exit)) (now (ins .exit)) (now (outs .exit)) (now (parent .exit)) ⌝ }
+    requires { ⌜ RunAsked (numbers .inputs) (numbers .nodes) (numbers .k .leaves) (now fanins) (now order) (now roles) (now links) ⌝ }
+    ensures { λ r. ⌜ Ran (numbers .inputs) (numbers .nodes) (numbers .k .leaves) (now (fanins .entry)) (now (roles .entry)) r (now (links .exit)) ⌝ }
+    ensures { λ _. ⌜ Beyond (5 * numbers .nodes) (now (links .entry)) (now (links .exit)) ⌝ }
 {
-    clear(next);
-    clear(prev);
+    clear(links, numbers.nodes, NEXT, 2);
+    let k = numbers.k;
     let most = k.leaves;
     let mut number: u8 = 0;
     while number <= most {
-        if !add_path(
-            fan,
-            count,
-            inputs,
-            nodes,
-            order,
-            area,
-            ends,
-            next,
-            prev,
-            ins,
-            outs,
-            parent,
-        ) {
+        if !add_path(numbers, fanins, order, roles, links) {
             return Outcome::Full(number);
         }
         number += 1;
@@ -60,29 +45,29 @@ pub fn run(
 }
 
 // Writes v as the j-th leaf, if it is one; answers how many there are then.
-fn put_leaf(ins: &[u16], outs: &[u16], v: Node, j: usize, leaves: &mut [u16]) -> usize
-    requires { ⌜ LeafAsked (now ins) (now outs) (v .id) j (now leaves) ⌝ }
-    ensures { λ r. ⌜ LeafPut (now (ins .entry)) (now (outs .entry)) (v .id) j (now (leaves .entry)) r (now (leaves .exit)) ⌝ }
+fn put_leaf(nodes: usize, links: &[u16], v: Node, j: usize, cut: &mut [u16]) -> usize
+    requires { ⌜ LeafAsked nodes (now links) (v .id) j (now cut) ⌝ }
+    ensures { λ r. ⌜ LeafPut nodes (now (links .entry)) (v .id) j (now (cut .entry)) r (now (cut .exit)) ⌝ }
 {
-    if at(ins, v) == 0 {
+    if at(links, nodes, INS, v) == NOT_FOUND {
         return j;
     }
-    if at(outs, v) != 0 {
+    if at(links, nodes, OUTS, v) != NOT_FOUND {
         return j;
     }
-    leaves[j] = v.id;
+    cut[j] = v.id;
     j + 1
 }
 
 // The leaves, rising: the nodes whose in-state was found and whose out-state was not.
-pub fn write_leaves(nodes: usize, ins: &[u16], outs: &[u16], leaves: &mut [u16])
-    requires { ⌜ LeavesAsked nodes (now ins) (now outs) (now leaves) ⌝ }
-    ensures { λ _. ⌜ now (leaves .exit) ≡ sets (now (leaves .entry)) 0 (leavesIn nodes (now (ins .entry)) (now (outs .entry))) ⌝ }
+pub fn write_leaves(nodes: usize, links: &[u16], cut: &mut [u16])
+    requires { ⌜ LeavesAsked nodes (now links) (now cut) ⌝ }
+    ensures { λ _. ⌜ now (cut .exit) ≡ sets (now (cut .entry)) 0 (leavesIn nodes (now (links .entry))) ⌝ }
 {
     let mut j: usize = 0;
     let mut i: usize = 0;
     while i < nodes {
-        j = put_leaf(ins, outs, Node { id: i as u16 }, j, leaves);
+        j = put_leaf(nodes, links, Node { id: i as u16 }, j, cut);
         i += 1;
     }
 }

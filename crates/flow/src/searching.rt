@@ -1,16 +1,33 @@
 // The search for one more path, by pull and sweep: it goes along the order and numbers each state that its fanins, its link or the source reach,
 // until an end's out-state has a number, or a sweep gives none. Nothing in what it leaves says in which order it goes.
-use crate::Size;
+use crate::cells::EDGE_OF_FLOW;
+use crate::cells::FIRST_NODE;
+use crate::cells::INS;
+use crate::cells::NEXT;
+use crate::cells::NO_LINK;
+use crate::cells::NOT_FOUND;
+use crate::cells::OUTS;
+use crate::cells::PARENT;
 use crate::cells::at;
 use crate::cells::clear;
-use crate::cells::is_marked;
 use crate::cells::put;
-use drawing::Node;
+use storage::Node;
+use storage::Numbers;
+use storage::lists::entry_at;
+use storage::lists::size_at;
+use storage::roles::AREA;
+use storage::roles::END;
 ghost use mathlib.Core.Path.{_≡_};
-ghost use Prim.Native.Nat.{_+_, _*_, _≤_, _<_};
+ghost use Prim.Native.Nat.{_+_, _<_};
 ghost use lib.ListN.{length};
-ghost use Rattle.flow.specs.Sweeps.{EndReached, SweepAsked, SweptSo, SearchAsked, SoughtSo};
-ghost use Rattle.flow.specs.Turns.{nodeAt, Fed, FaninFound, InAsked, OutAsked, Entered, Left, VisitInAsked, VisitOutAsked, VisitedIn, VisitedOut, VisitAsked, Visited};
+ghost use lib.Dec.{eqb};
+ghost use Rattle.storage.specs.Entries.{at as cell};
+ghost use Rattle.storage.specs.Roles.{areaIn, endsIn};
+ghost use Rattle.flow.specs.Links.{nextIn, insIn, outsIn};
+ghost use Rattle.flow.specs.Cells.{CellIn, PathsKept};
+ghost use Rattle.flow.specs.Sweeps.{EndReached, EndAsked, SweepAsked, SweptSo, SearchAsked, SoughtSo};
+ghost use Rattle.flow.specs.Turns.{FaninFound, Entered, Left, VisitedIn, InputEntered, VisitedOut, InputVisited, Visited};
+ghost use Rattle.flow.specs.Turns.{InAsked, OutAsked, EnterAsked, LeaveAsked, InputAsked, GateAsked};
 
 // How a sweep ended: at an end that it reached, or all along, with the last number given.
 enum Swept {
@@ -24,218 +41,221 @@ pub enum Sought {
     Nothing,
 }
 
-// The i-th of the inputs and then the order.
-fn node_at(order: &[u16], inputs: usize, i: usize) -> Node
-    requires { ⌜ i < inputs + length (now order) ⌝ }
-    requires { ⌜ inputs ≤ 32767 ⌝ }
-    ensures { λ r. ⌜ r .id ≡ nodeAt inputs (now (order .entry)) i ⌝ }
+// Whether v lies in the area.
+fn is_inside(roles: &[u8], v: Node) -> bool
+    requires { ⌜ v .id < length (now roles) ⌝ }
+    ensures { λ r. ⌜ r ≡ eqb (cell (areaIn (now (roles .entry))) (v .id)) 1 ⌝ }
 {
-    if i < inputs {
-        return Node { id: i as u16 };
+    let i = v.id as usize;
+    let role = roles[i];
+    if role == AREA {
+        return true;
     }
-    let j = i - inputs;
-    Node { id: order[j] }
+    role == END
 }
 
-// A fanin of v whose out-state was found, as its id plus two, or 0.
-fn found_fanin(fan: &[u16], count: &[u8], outs: &[u16], v: Node) -> u16
-    requires { ⌜ Fed (now fan) (now count) (v .id) (length (now outs)) ⌝ }
-    ensures { λ r. ⌜ FaninFound (now (fan .entry)) (now (count .entry)) (now (outs .entry)) (v .id) r ⌝ }
+// A fanin of v whose out-state was found, as a link, or none.
+fn found_fanin(numbers: Numbers, fanins: &[u16], links: &[u16], v: Node) -> u16
+    requires { ⌜ InAsked (numbers .inputs) (numbers .nodes) (now fanins) (now links) (v .id) ⌝ }
+    ensures { λ r. ⌜ FaninFound (now (fanins .entry)) (outsIn (numbers .nodes) (now (links .entry))) (v .id) r ⌝ }
 {
-    let g = v.id as usize;
-    let most = count[g] as usize;
+    let nodes = numbers.nodes;
+    let most = size_at(fanins, v);
     let mut i: usize = 0;
     while i < most {
-        let place = 6 * g + i;
-        let u = fan[place];
-        if at(outs, Node { id: u }) != 0 {
-            return u + 2;
+        let u = entry_at(fanins, v, i);
+        if at(links, nodes, OUTS, u) != NOT_FOUND {
+            return u.id + FIRST_NODE;
         }
         i += 1;
     }
-    0
+    NO_LINK
 }
 
-// From where v's in-state is reached: 1 for the source, u + 2 for the out-state of u, or 0.
-fn way_in(fan: &[u16], count: &[u8], inputs: usize, next: &[u16], outs: &[u16], v: Node) -> u16
-    requires { ⌜ InAsked (now fan) (now count) (now next) (now outs) (v .id) ⌝ }
-    ensures { λ r. ⌜ Entered inputs (now (fan .entry)) (now (count .entry)) (now (next .entry)) (now (outs .entry)) (v .id) r ⌝ }
+// From where the in-state of the gate v is reached, as a link: the out-state of a node, or none.
+fn way_in(numbers: Numbers, fanins: &[u16], links: &[u16], v: Node) -> u16
+    requires { ⌜ InAsked (numbers .inputs) (numbers .nodes) (now fanins) (now links) (v .id) ⌝ }
+    ensures { λ r. ⌜ Entered (numbers .inputs) (now (fanins .entry)) (nextIn (numbers .nodes) (now (links .entry)))
+        (outsIn (numbers .nodes) (now (links .entry))) (v .id) r ⌝ }
 {
-    let g = v.id as usize;
-    if g < inputs {
-        return 1;
-    }
-    let from = found_fanin(fan, count, outs, v);
-    if from != 0 {
+    let nodes = numbers.nodes;
+    let from = found_fanin(numbers, fanins, links, v);
+    if from != NO_LINK {
         return from;
     }
-    if at(next, v) == 0 {
-        return 0;
+    if at(links, nodes, NEXT, v) == NO_LINK {
+        return NO_LINK;
     }
-    if at(outs, v) == 0 {
-        return 0;
+    if at(links, nodes, OUTS, v) == NOT_FOUND {
+        return NO_LINK;
     }
-    v.id + 2
+    v.id + FIRST_NODE
 }
 
 // Whether v's out-state is reached: through v, where v is unused, or back from the node that it feeds.
-fn way_out(next: &[u16], ins: &[u16], v: Node) -> bool
-    requires { ⌜ OutAsked (now next) (now ins) (v .id) ⌝ }
-    ensures { λ r. ⌜ Left (now (next .entry)) (now (ins .entry)) (v .id) r ⌝ }
+fn way_out(nodes: usize, links: &[u16], v: Node) -> bool
+    requires { ⌜ OutAsked nodes (now links) (v .id) ⌝ }
+    ensures { λ r. ⌜ Left (nextIn nodes (now (links .entry))) (insIn nodes (now (links .entry))) (v .id) r ⌝ }
 {
-    let to = at(next, v);
-    if to == 0 {
-        return at(ins, v) != 0;
+    let to = at(links, nodes, NEXT, v);
+    if to == NO_LINK {
+        return at(links, nodes, INS, v) != NOT_FOUND;
     }
-    if to == 1 {
+    if to == EDGE_OF_FLOW {
         return false;
     }
-    at(ins, Node { id: to - 2 }) != 0
+    let g = Node {
+        id: to - FIRST_NODE,
+    };
+    at(links, nodes, INS, g) != NOT_FOUND
 }
 
-// Numbers v's in-state if it is reached and has none yet; answers the last number given.
-fn visit_in(
-    fan: &[u16],
-    count: &[u8],
-    inputs: usize,
-    next: &[u16],
-    outs: &[u16],
-    ins: &mut [u16],
-    parent: &mut [u16],
-    v: Node,
-    number: u16,
-) -> u16
-    requires { ⌜ VisitInAsked (now fan) (now count) (now next) (now outs) (now ins) (now parent) (v .id) number ⌝ }
-    ensures { λ r. ⌜ VisitedIn inputs (now (fan .entry)) (now (count .entry)) (now (next .entry)) (now (outs .entry)) (v .id) number (now (ins .entry)) (now (parent .entry)) r (now (ins .exit)) (now (parent .exit)) ⌝ }
+// Numbers the in-state of the input v, which the source reaches, if it has no number yet; answers the last number given.
+fn enter_input(nodes: usize, links: &mut [u16], v: Node, number: u16) -> u16
+    requires { ⌜ CellIn nodes 2 (v .id) (now links) ⌝ }
+    requires { ⌜ number < 65535 ⌝ }
+    ensures { λ r. ⌜ InputEntered nodes (now (links .entry)) (v .id) number r (now (links .exit)) ⌝ }
 {
-    if at(ins, v) != 0 {
+    if at(links, nodes, INS, v) != NOT_FOUND {
         return number;
     }
-    let from = way_in(fan, count, inputs, next, outs, v);
-    if from == 0 {
-        return number;
-    }
-    put(ins, v, number + 1);
-    put(parent, v, from);
+    put(links, nodes, INS, v, number + 1);
+    put(links, nodes, PARENT, v, EDGE_OF_FLOW);
     number + 1
 }
 
-// The same of v's out-state.
-fn visit_out(next: &[u16], ins: &[u16], outs: &mut [u16], v: Node, number: u16) -> u16
-    requires { ⌜ VisitOutAsked (now next) (now ins) (now outs) (v .id) number ⌝ }
-    ensures { λ r. ⌜ VisitedOut (now (next .entry)) (now (ins .entry)) (v .id) number (now (outs .entry)) r (now (outs .exit)) ⌝ }
+// Numbers the in-state of the gate v if it is reached and has none yet; answers the last number given.
+fn enter_gate(numbers: Numbers, fanins: &[u16], links: &mut [u16], v: Node, number: u16) -> u16
+    requires { ⌜ EnterAsked (numbers .inputs) (numbers .nodes) (now fanins) (now links) (v .id) number ⌝ }
+    ensures { λ r. ⌜ VisitedIn (numbers .inputs) (numbers .nodes) (now (fanins .entry)) (now (links .entry)) (v .id) number r (now (links .exit)) ⌝ }
 {
-    if at(outs, v) != 0 {
+    let nodes = numbers.nodes;
+    if at(links, nodes, INS, v) != NOT_FOUND {
         return number;
     }
-    if way_out(next, ins, v) {
-        put(outs, v, number + 1);
+    let from = way_in(numbers, fanins, links, v);
+    if from == NO_LINK {
+        return number;
+    }
+    put(links, nodes, INS, v, number + 1);
+    put(links, nodes, PARENT, v, from);
+    number + 1
+}
+
+// Numbers the out-state of v if it is reached and has none yet; answers the last number given.
+fn leave(nodes: usize, links: &mut [u16], v: Node, number: u16) -> u16
+    requires { ⌜ LeaveAsked nodes (now links) (v .id) number ⌝ }
+    ensures { λ r. ⌜ VisitedOut nodes (now (links .entry)) (v .id) number r (now (links .exit)) ⌝ }
+{
+    if at(links, nodes, OUTS, v) != NOT_FOUND {
+        return number;
+    }
+    if way_out(nodes, links, v) {
+        put(links, nodes, OUTS, v, number + 1);
         return number + 1;
     }
     number
 }
 
-// Visits a node of the area: its in-state, then its out-state.
-fn visit(
-    fan: &[u16],
-    count: &[u8],
-    size: Size,
-    area: &[u8],
-    next: &[u16],
-    ins: &mut [u16],
-    outs: &mut [u16],
-    parent: &mut [u16],
+// Visits an input of the area: its in-state, then its out-state.
+fn visit_input(nodes: usize, roles: &[u8], links: &mut [u16], v: Node, number: u16) -> u16
+    requires { ⌜ InputAsked nodes (now roles) (now links) (v .id) number ⌝ }
+    ensures { λ r. ⌜ InputVisited nodes (now (roles .entry)) (now (links .entry)) (v .id) number r (now (links .exit)) ⌝ }
+{
+    if !is_inside(roles, v) {
+        return number;
+    }
+    let entered = enter_input(nodes, links, v, number);
+    leave(nodes, links, v, entered)
+}
+
+// The same of a gate.
+fn visit_gate(
+    numbers: Numbers,
+    fanins: &[u16],
+    roles: &[u8],
+    links: &mut [u16],
     v: Node,
     number: u16,
 ) -> u16
-    requires { ⌜ VisitAsked (size .inputs) (size .nodes) (now fan) (now count) (now area) (now next) (now ins) (now outs) (now parent) (v .id) number ⌝ }
-    ensures { λ r. ⌜ Visited (size .inputs) (size .nodes) (now (fan .entry)) (now (count .entry)) (now (area .entry)) (now (next .entry)) (v .id) number (now (ins .entry)) (now (outs .entry)) r (now (ins .exit)) (now (outs .exit)) (now (parent .exit)) ⌝ }
+    requires { ⌜ GateAsked (numbers .inputs) (numbers .nodes) (now fanins) (now roles) (now links) (v .id) number ⌝ }
+    ensures { λ r. ⌜ Visited (numbers .inputs) (numbers .nodes) (now (fanins .entry)) (now (roles .entry)) (now (links .entry))
+        (v .id) number r (now (links .exit)) ⌝ }
 {
-    if !is_marked(area, v) {
+    if !is_inside(roles, v) {
         return number;
     }
-    let inputs = size.inputs;
-    let entered = visit_in(fan, count, inputs, next, outs, ins, parent, v, number);
-    visit_out(next, ins, outs, v, entered)
+    let nodes = numbers.nodes;
+    let entered = enter_gate(numbers, fanins, links, v, number);
+    leave(nodes, links, v, entered)
 }
 
 // Whether v is an end whose out-state was found.
-fn is_reached(ends: &[u8], outs: &[u16], v: Node) -> bool
-    requires { ⌜ v .id < length (now ends) ⌝ }
-    requires { ⌜ v .id < length (now outs) ⌝ }
-    ensures { λ r. ⌜ EndReached (now (ends .entry)) (now (outs .entry)) (v .id) r ⌝ }
+fn is_reached(nodes: usize, roles: &[u8], links: &[u16], v: Node) -> bool
+    requires { ⌜ EndAsked nodes (now roles) (now links) (v .id) ⌝ }
+    ensures { λ r. ⌜ EndReached (endsIn (now (roles .entry))) (outsIn nodes (now (links .entry))) (v .id) r ⌝ }
 {
-    if is_marked(ends, v) {
-        return at(outs, v) != 0;
+    let i = v.id as usize;
+    if roles[i] == END {
+        return at(links, nodes, OUTS, v) != NOT_FOUND;
     }
     false
 }
 
 // One sweep over inputs and order, from the last number given so far: the end that it reached, or the last number that it gave.
 fn sweep(
-    fan: &[u16],
-    count: &[u8],
-    size: Size,
+    numbers: Numbers,
+    fanins: &[u16],
     order: &[u16],
-    area: &[u8],
-    ends: &[u8],
-    next: &[u16],
-    ins: &mut [u16],
-    outs: &mut [u16],
-    parent: &mut [u16],
+    roles: &[u8],
+    links: &mut [u16],
     number: u16,
 ) -> Swept
-    requires { ⌜ SweepAsked (size .inputs) (size .nodes) (now fan) (now count) (now order) (now area) (now ends) (now next) (now ins) (now outs) (now parent) number ⌝ }
-    ensures { λ r. ⌜ SweptSo (size .inputs) (size .nodes) (now (fan .entry)) (now (count .entry)) (now (area .entry)) (now (ends .entry)) (now (next .entry)) number r (now (ins .exit)) (now (outs .exit)) (now (parent .exit)) ⌝ }
+    requires { ⌜ SweepAsked (numbers .inputs) (numbers .nodes) (now fanins) (now order) (now roles) (now links) number ⌝ }
+    ensures { λ r. ⌜ SweptSo (numbers .inputs) (numbers .nodes) (now (fanins .entry)) (now (roles .entry)) number r (now (links .exit)) ⌝ }
+    ensures { λ _. ⌜ PathsKept (numbers .nodes) (now (links .entry)) (now (links .exit)) ⌝ }
 {
-    let inputs = size.inputs;
-    let nodes = size.nodes;
+    let inputs = numbers.inputs;
+    let nodes = numbers.nodes;
     let mut last = number;
     let mut i: usize = 0;
-    while i < nodes {
-        let v = node_at(order, inputs, i);
-        last = visit(fan, count, size, area, next, ins, outs, parent, v, last);
-        if is_reached(ends, outs, v) {
+    while i < inputs {
+        let v = Node { id: i as u16 };
+        last = visit_input(nodes, roles, links, v, last);
+        if is_reached(nodes, roles, links, v) {
             return Swept::Reached(v);
         }
         i += 1;
+    }
+    let gates = nodes - inputs;
+    let mut j: usize = 0;
+    while j < gates {
+        let v = Node { id: order[j] };
+        last = visit_gate(numbers, fanins, roles, links, v, last);
+        if is_reached(nodes, roles, links, v) {
+            return Swept::Reached(v);
+        }
+        j += 1;
     }
     Swept::UpTo(last)
 }
 
 // Sweeps until an end is reached or a sweep gives no number.
 pub fn search(
-    fan: &[u16],
-    count: &[u8],
-    size: Size,
+    numbers: Numbers,
+    fanins: &[u16],
     order: &[u16],
-    area: &[u8],
-    ends: &[u8],
-    next: &[u16],
-    ins: &mut [u16],
-    outs: &mut [u16],
-    parent: &mut [u16],
+    roles: &[u8],
+    links: &mut [u16],
 ) -> Sought
-    requires { ⌜ SearchAsked (size .inputs) (size .nodes) (now fan) (now count) (now order) (now area) (now ends) (now next) (now ins) (now outs) (now parent) ⌝ }
-    ensures { λ r. ⌜ SoughtSo (size .inputs) (size .nodes) (now (fan .entry)) (now (count .entry)) (now (area .entry)) (now (ends .entry)) (now (next .entry)) r (now (ins .exit)) (now (outs .exit)) (now (parent .exit)) ⌝ }
+    requires { ⌜ SearchAsked (numbers .inputs) (numbers .nodes) (now fanins) (now order) (now roles) (now links) ⌝ }
+    ensures { λ r. ⌜ SoughtSo (numbers .inputs) (numbers .nodes) (now (fanins .entry)) (now (roles .entry)) r (now (links .exit)) ⌝ }
+    ensures { λ _. ⌜ PathsKept (numbers .nodes) (now (links .entry)) (now (links .exit)) ⌝ }
 {
-    clear(ins);
-    clear(outs);
+    clear(links, numbers.nodes, INS, 2);
     let mut number: u16 = 0;
     loop {
-        let swept = sweep(
-            fan,
-            count,
-            size,
-            order,
-            area,
-            ends,
-            next,
-            ins,
-            outs,
-            parent,
-            number,
-        );
+        let swept = sweep(numbers, fanins, order, roles, links, number);
         match swept {
             Swept::Reached(v) => {
                 return Sought::End(v);

@@ -1,6 +1,7 @@
 -- Passes three and four together, from arrays.
 use Prim.Native.Nat.{ℕ, _≤_}
-use mathlib.Core.Path.{_≡_, refl, subst}
+use native.Mathlib.Omega.{arith}
+use mathlib.Core.Path.{_≡_, refl, ap, subst}
 use mathlib.Core.Bool.{true}
 use mathlib.Core.List.{List, [], _∷_, _++_, map, flatMap, List·Memᴰ, List·Memᴰ·head, List·Memᴰ·tail}
 use lib.ListN.{length, getD, take}
@@ -8,8 +9,11 @@ use Rattle.theory.specs.Net.{Net}
 use Rattle.theory.specs.Lists.{greatest}
 use Rattle.theory.specs.Walk.{Cut}
 use Rattle.theory.specs.Cover.{Luts}
-use Rattle.drawing.specs.declared.Node.{Node}
-use Rattle.drawing.specs.Table.{netIn, tablesIn}
+use Rattle.storage.specs.declared.Node.{Node}
+use Rattle.storage.specs.Entries.{cleared}
+use Rattle.storage.specs.Drawings.{netIn, tablesIn}
+use Rattle.storage.proofs.Clears.{cleared-size}
+use Rattle.storage.proofs.Drawings.{drawn-span}
 use Rattle.covering.specs.Covers.{lutsIn}
 use Rattle.sheet.specs.Sheet.{Sheet}
 use Rattle.sheet.specs.Rules.{Rule, FirstBroken, Keeps, lutsOf, lutRules, labelsOf, gates}
@@ -32,85 +36,109 @@ unfolding greatest
 greatest-same a b [] each = refl
 greatest-same a b (v ∷ vs) each = rw (each v (List·Memᴰ·head refl), greatest-same a b vs (λ u m. each u (List·Memᴰ·tail m)))
 
-module _ (inputs nodes k : ℕ) (fan count rows order outputs : List ℕ) (number : ℕ) (labels roots leaves sizes tables : List ℕ) (head : ℕ) (walked met values depths : List ℕ)
-    (p : LastAsked inputs nodes k fan count rows order outputs number labels roots leaves sizes tables head walked met values depths) where
-  pub luts-asked : LutsAsked inputs nodes k fan count rows order roots leaves sizes tables walked met values
-  luts-asked =
+module _ {k inputs nodes number : ℕ} {fanins rows outputs order labels roots cuts tables : List ℕ} {head : ℕ} {roles : List ℕ}
+    (p : LastAsked k inputs nodes number fanins rows outputs order labels roots cuts tables head roles) where
+  pub luts-asked : {values : List ℕ} → nodes ≤ length values → LutsAsked inputs nodes k fanins rows order roots cuts tables roles values
+  luts-asked room =
       record {
-        drawing = p .drawing;
-        luts = luts-laid (p .held .rise) (p .held .luts);
-        small = p .small;
-        rows-long = p .rows-long;
+        drawing = p .laid .drawing;
+        laid = luts-laid (p .held .rise) (p .held .luts);
+        rows-long = p .laid .rows-long;
         tables-long = p .held .luts .tables-long;
-        walked-long = p .walked-long;
-        met-long = p .met-long;
-        values-long = p .values-long;
+        roles-long = p .roles-long;
+        values-long = room;
       }
 
   abbrev net : Net
-  net = netIn inputs nodes fan count
+  net = netIn inputs nodes fanins
 
-  module _ (sheet : Sheet) (h : SheetHeld inputs nodes labels roots leaves sizes tables head sheet) where
-    ruled-luts : {r : LutsJudged} → LutsRuled net (tablesIn rows) k (lutsIn inputs nodes leaves sizes roots) (tablesIn tables) r →
-        LutsRuled net (tablesIn rows) k (lutsOf (sheet .luts)) (tablesIn tables) r
+  abbrev outs : List ℕ
+  outs = take number outputs
+
+  -- what pass three says, what pass four says, and what both say
+  abbrev Third : LutsJudged → Type 0
+  Third r = LutsRuled net (tablesIn rows) k (lutsIn inputs nodes cuts roots) (tablesIn tables) r
+
+  abbrev Fourth : WholeJudged → Type 0
+  Fourth r = WholeRuled (netIn inputs nodes cuts) outs (lutsIn inputs nodes cuts roots) (λ v. getD labels v 0) head r
+
+  abbrev Both : Inspection → Type 0
+  Both r = LastRuled k inputs nodes fanins rows outs labels roots cuts tables head r
+
+  module _ (sheet : Sheet) (h : SheetHeld inputs nodes labels roots cuts tables head sheet) where
+    ruled-luts : {r : LutsJudged} → Third r → LutsRuled net (tablesIn rows) k (lutsOf (sheet .luts)) (tablesIn tables) r
     ruled-luts {r} ruled = subst (λ (l : Luts). LutsRuled net (tablesIn rows) k l (tablesIn tables) r) (luts-held (h .rise) (h .luts)) ruled
 
-    first-luts : {r : LutsJudged} → LutsRuled net (tablesIn rows) k (lutsIn inputs nodes leaves sizes roots) (tablesIn tables) r →
-        FirstBroken (Keeps net (tablesIn rows) k (take number outputs) sheet) (flatMap lutRules (sheet .luts)) (foundLuts (sheet .luts) r)
+    first-luts : {r : LutsJudged} → Third r → FirstBroken (Keeps net (tablesIn rows) k outs sheet) (flatMap lutRules (sheet .luts)) (foundLuts (sheet .luts) r)
     first-luts ruled =
-        luts-found net (tablesIn rows) k (take number outputs) sheet (sheet .luts) (h .rise .rise) (tablesIn tables)
+        luts-found net (tablesIn rows) k outs sheet (sheet .luts) (h .rise .rise) (tablesIn tables)
         (λ v at. h .luts .table v (listed-below (h .rise) v at)) (ruled-luts ruled)
 
-    labels-same : greatest (map (λ v. getD labels v 0) (take number outputs)) ≡ greatest (map (labelsOf (net .inputs) (sheet .lines)) (take number outputs))
+    labels-same : greatest (map (λ v. getD labels v 0) outs) ≡ greatest (map (labelsOf (net .inputs) (sheet .lines)) outs)
     unfolding netIn
-    labels-same = greatest-same (λ v. getD labels v 0) (labelsOf inputs (sheet .lines)) (take number outputs) (λ v m. h .label v (p .output-nodes v m))
+    labels-same = greatest-same (λ v. getD labels v 0) (labelsOf inputs (sheet .lines)) outs (λ v m. h .label v (p .laid .output-nodes v m))
 
-    first-whole : {r : WholeJudged} → WholeRuled (netIn inputs nodes leaves sizes) (take number outputs) (lutsIn inputs nodes leaves sizes roots) (λ v. getD labels v 0) head r →
-        FirstBroken (Keeps net (tablesIn rows) k (take number outputs) sheet) (map Rule.cover (gates net) ++ (Rule.depth ∷ [])) (foundWhole r)
+    first-whole : {r : WholeJudged} → Fourth r →
+        FirstBroken (Keeps net (tablesIn rows) k outs sheet) (map Rule.cover (gates net) ++ (Rule.depth ∷ [])) (foundWhole r)
     unfolding netIn
     first-whole {r} ruled =
-        let held = subst (λ (l : Luts). WholeRuled (netIn inputs nodes leaves sizes) (take number outputs) l (λ v. getD labels v 0) head r) (luts-held (h .rise) (h .luts)) ruled in
-        let deep = subst (λ (d : ℕ). WholeRuled (netIn inputs nodes leaves sizes) (take number outputs) (lutsOf (sheet .luts)) (λ v. getD labels v 0) d r) (h .depth) held in
-        whole-found net (netIn inputs nodes leaves sizes) (tablesIn rows) k (take number outputs) sheet (p .drawing .drawn .bounded .span) refl refl (λ v. getD labels v 0) labels-same deep
+        let held = subst (λ (l : Luts). WholeRuled (netIn inputs nodes cuts) outs l (λ v. getD labels v 0) head r) (luts-held (h .rise) (h .luts)) ruled in
+        let deep = subst (λ (d : ℕ). WholeRuled (netIn inputs nodes cuts) outs (lutsOf (sheet .luts)) (λ v. getD labels v 0) d r) (h .depth) held in
+        whole-found net (netIn inputs nodes cuts) (tablesIn rows) k outs sheet (drawn-span (p .laid .drawing .drawn)) refl refl (λ v. getD labels v 0)
+        labels-same deep
 
   -- Pass three breaks off
 
   module _ {g : Node} where
-    pub last-cut : LutsRuled net (tablesIn rows) k (lutsIn inputs nodes leaves sizes roots) (tablesIn tables) (luts-judged.Cut g) →
-        LastRuled inputs nodes k fan count rows (take number outputs) labels roots leaves sizes tables head (inspection.Cut g)
+    pub last-cut : Third (luts-judged.Cut g) → Both (inspection.Cut g)
     last-cut ruled =
-        record { right = λ sheet h. record { found = foundLuts (sheet .luts) (luts-judged.Cut g); first = first-before (map Rule.cover (gates net) ++ (Rule.depth ∷ [])) (first-luts sheet h ruled); reply = refl } }
+        record {
+          right =
+              λ sheet h.
+              record {
+                found = foundLuts (sheet .luts) (luts-judged.Cut g);
+                first = first-before (map Rule.cover (gates net) ++ (Rule.depth ∷ [])) (first-luts sheet h ruled);
+                reply = refl;
+              };
+        }
 
-    pub last-function : LutsRuled net (tablesIn rows) k (lutsIn inputs nodes leaves sizes roots) (tablesIn tables) (luts-judged.Function g) →
-        LastRuled inputs nodes k fan count rows (take number outputs) labels roots leaves sizes tables head (inspection.Function g)
+    pub last-function : Third (luts-judged.Function g) → Both (inspection.Function g)
     last-function ruled =
-        record { right = λ sheet h. record { found = foundLuts (sheet .luts) (luts-judged.Function g); first = first-before (map Rule.cover (gates net) ++ (Rule.depth ∷ [])) (first-luts sheet h ruled); reply = refl } }
+        record {
+          right =
+              λ sheet h.
+              record {
+                found = foundLuts (sheet .luts) (luts-judged.Function g);
+                first = first-before (map Rule.cover (gates net) ++ (Rule.depth ∷ [])) (first-luts sheet h ruled);
+                reply = refl;
+              };
+        }
 
   -- It does not
 
-  module _ (kept : LutsRuled net (tablesIn rows) k (lutsIn inputs nodes leaves sizes roots) (tablesIn tables) luts-judged.Kept) where
-    cuts-of : {luts : Luts} → LutsRuled net (tablesIn rows) k luts (tablesIn tables) luts-judged.Kept → (r : ℕ) → luts .root r ≡ true → Cut net k r (luts .leaves r)
+  module _ (kept : Third luts-judged.Kept) where
+    cuts-of : {luts : Luts} → LutsRuled net (tablesIn rows) k luts (tablesIn tables) luts-judged.Kept → (r : ℕ) → luts .root r ≡ true →
+        Cut net k r (luts .leaves r)
     cuts-of (LutsRuled.kept each) r at = each r at .cut
 
-    pub whole-asked : {walked′ : List ℕ} → nodes ≤ length walked′ → WholeAsked inputs nodes order roots leaves sizes outputs number labels walked′ depths
-    whole-asked room =
+    pub whole-asked : {wanted depths : List ℕ} → wanted ≡ cleared nodes roles → nodes ≤ length depths →
+        WholeAsked inputs nodes order roots cuts outputs number labels wanted depths
+    whole-asked clear depths-long =
         let laid = luts-laid (p .held .rise) (p .held .luts) in
         record {
           chosen =
-              luts-chosen inputs nodes k fan count order roots leaves sizes (p .sheet .luts) (p .drawing) laid (luts-held (p .held .rise) (p .held .luts))
+              luts-chosen (p .sheet .luts) (p .laid .drawing) laid (luts-held (p .held .rise) (p .held .luts))
               (cuts-of (ruled-luts (p .sheet) (p .held) kept));
-          ids = p .drawing .ids;
+          small = p .laid .drawing .small;
           marks = laid .marks;
           gates = laid .gates;
-          outputs-long = p .outputs-long;
-          output-nodes = p .output-nodes;
+          outputs-long = p .laid .outputs-long;
+          output-nodes = p .laid .output-nodes;
           labels-long = p .labels-long;
-          wanted-long = room;
-          depths-long = p .depths-long;
+          wanted-long = omega (arith, p .roles-long, ap (λ (l : List ℕ). length l) clear, cleared-size nodes roles (p .roles-long));
+          depths-long = depths-long;
         }
 
-    pub last-whole : {r : WholeJudged} {reply : Inspection} → reply ≡ replyOf head (foundWhole r) →
-        WholeRuled (netIn inputs nodes leaves sizes) (take number outputs) (lutsIn inputs nodes leaves sizes roots) (λ v. getD labels v 0) head r →
-        LastRuled inputs nodes k fan count rows (take number outputs) labels roots leaves sizes tables head reply
+    pub last-whole : {r : WholeJudged} {reply : Inspection} → reply ≡ replyOf head (foundWhole r) → Fourth r → Both reply
     last-whole {r} e ruled =
         record { right = λ sheet h. record { found = foundWhole r; first = first-after (first-luts sheet h kept) (first-whole sheet h ruled); reply = e } }

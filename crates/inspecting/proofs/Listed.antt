@@ -9,10 +9,11 @@ use mathlib.Core.List.{List, [], _∷_, List·Memᴰ, List·Memᴰ·head, List·
 use lib.ListN.{getD, take, length-take, List·getD-eq-default}
 use lib.Seq.{getD-take}
 use lib.Dec.{eqb}
-use borrow.Author.Tests.{eqb-true, eq-eqb}
+use borrow.Author.Tests.{eqb-true, eq-eqb, ne-eqb}
+use Rattle.storage.specs.Drawings.{netIn}
+use Rattle.storage.proofs.Drawings.{fanins-in, fanins-out}
+use Rattle.storage.proofs.Entries.{false-not-true}
 use Rattle.theory.specs.Values.{bit}
-use Rattle.drawing.specs.Table.{netIn}
-use Rattle.walking.proofs.Entries.{fanins-in, fanins-out, false-not-true}
 use Rattle.covering.specs.Covers.{isRoot, lutsIn}
 use Rattle.sheet.specs.Sheet.{Lut}
 use Rattle.sheet.specs.Rules.{isListed, leavesListed, tableListed, lutsOf}
@@ -52,13 +53,6 @@ unlisted-leaves (x ∷ luts) v none = either (eqb (x .root) v) none (unlisted-le
     either true none later = absurd (false-not-true none refl)
     either false none later = later none
 
-not-same : (a b : ℕ) → (a ≡ b → ⊥) → eqb a b ≡ false
-not-same a b apart = by (eqb a b) refl
-  where
-    by : (c : Bool) → eqb a b ≡ c → c ≡ false
-    by true e = absurd (apart (eqb-true a b e))
-    by false e = refl
-
 -- with roots that rise, each LUT is the one listed for its root
 pub leaves-listed : {luts : List Lut} {least : ℕ} → Ascends rootOf least luts → {lut : Lut} → List·Memᴰ lut luts → leavesListed luts (lut .root) ≡ lut .leaves
 unfolding leavesListed
@@ -67,7 +61,7 @@ leaves-listed (Ascends.more {x = x} {xs = xs} low rest) {lut} m =
     ⊎-elim (λ (e : lut ≡ x). rw (e, eq-eqb (x .root) (x .root) refl))
     (λ (late : List·Memᴰ lut xs).
     let above = ascends-from rest late in
-    rw (not-same (x .root) (lut .root) (λ e. omega arith)) (leaves-listed rest late))
+    rw (ne-eqb (x .root) (lut .root) (λ e. omega arith)) (leaves-listed rest late))
     (List·Memᴰ·cases-cons m)
 
 pub table-listed : {luts : List Lut} {least : ℕ} → Ascends rootOf least luts → {lut : Lut} → List·Memᴰ lut luts → tableListed luts (lut .root) ≡ lut .table
@@ -77,7 +71,7 @@ table-listed (Ascends.more {x = x} {xs = xs} low rest) {lut} m =
     ⊎-elim (λ (e : lut ≡ x). rw (e, eq-eqb (x .root) (x .root) refl))
     (λ (late : List·Memᴰ lut xs).
     let above = ascends-from rest late in
-    rw (not-same (x .root) (lut .root) (λ e. omega arith)) (table-listed rest late))
+    rw (ne-eqb (x .root) (lut .root) (λ e. omega arith)) (table-listed rest late))
     (List·Memᴰ·cases-cons m)
 
 -- The arrays stand for the list
@@ -100,7 +94,7 @@ module _ {inputs nodes : ℕ} {luts : List Lut} (roots-rise : RootsRise inputs n
       by true e = absurd (omega (arith, listed-below v e))
       by false e = refl
 
-  module _ {roots leaves sizes tables : List ℕ} (h : HoldsLuts nodes luts roots leaves sizes tables) where
+  module _ {roots cuts tables : List ℕ} (h : HoldsLuts nodes luts roots cuts tables) where
     root-held : (v : ℕ) → isRoot nodes roots v ≡ isListed luts v
     unfolding isRoot
     root-held v = by (decLt v nodes)
@@ -112,26 +106,24 @@ module _ {inputs nodes : ℕ} {luts : List Lut} (roots-rise : RootsRise inputs n
             let none : getD (take nodes roots) v 0 ≡ 0 = List·getD-eq-default (take nodes roots) 0 {n = v} (simp length-take (omega arith)) in
             rw (none, unlisted-beyond v out)
 
-    leaves-held : (v : ℕ) → netIn inputs nodes leaves sizes .fanins v ≡ leavesListed luts v
+    leaves-held : (v : ℕ) → netIn inputs nodes cuts .fanins v ≡ leavesListed luts v
     leaves-held v = by (decLt v nodes)
       where
-        by : Dec (v < nodes) → netIn inputs nodes leaves sizes .fanins v ≡ leavesListed luts v
-        by (yes low) = fanins-in inputs nodes leaves sizes v low ∙ h .cut v low
+        by : Dec (v < nodes) → netIn inputs nodes cuts .fanins v ≡ leavesListed luts v
+        by (yes low) = fanins-in inputs nodes cuts v low ∙ h .cut v low
         by (no high) =
             let out : nodes ≤ v = omega arith in
-            fanins-out inputs nodes leaves sizes v out ∙ sym (unlisted-leaves luts v (unlisted-beyond v out))
+            fanins-out inputs nodes cuts v out ∙ sym (unlisted-leaves luts v (unlisted-beyond v out))
 
-    pub luts-held : lutsIn inputs nodes leaves sizes roots ≡ lutsOf luts
+    pub luts-held : lutsIn inputs nodes cuts roots ≡ lutsOf luts
     luts-held = λ i. record { root = fun-ext root-held i; leaves = fun-ext leaves-held i }
 
-    pub luts-laid : LutsLaid inputs nodes roots leaves sizes
+    pub luts-laid : LutsLaid inputs nodes roots cuts
     luts-laid =
         record {
           marks = record { inside = h .roots-long; bits = λ v low. bits v low (isListed luts v) (h .root v low) };
           gates = λ r at. listed-above r (sym (root-held r) ∙ at);
-          leaves-long = h .leaves-long;
-          sizes-long = h .sizes-long;
-          six = h .six;
+          lists = record { long = h .cuts-long; six = h .six };
         }
       where
         bits : (v : ℕ) → v < nodes → (b : Bool) → getD roots v 0 ≡ bit b → (getD roots v 0 ≡ 0) ⊎ (getD roots v 0 ≡ 1)

@@ -5,22 +5,22 @@ use native.Mathlib.Omega.{arith}
 use mathlib.Core.Path.{_≡_, refl, ap, sym, subst, _∙_}
 use mathlib.Core.Bool.{Bool, true, false}
 use mathlib.Core.List.{List, [], _∷_, _++_, map, flatMap, List·Memᴰ, List·Memᴰ·not-nil}
+use Rattle.storage.specs.Drawings.{netIn, Arranged}
+use Rattle.storage.proofs.Drawings.{gate-below}
 use Rattle.theory.specs.Net.{Net, Gate}
 use Rattle.theory.specs.Lists.{greatest}
 use Rattle.theory.specs.Walk.{Cut, Met}
 use Rattle.theory.specs.Cover.{Luts, Depth, Depths}
 use Rattle.theory.specs.Lookup.{ConeTable}
-use Rattle.drawing.specs.Table.{netIn}
-use Rattle.walking.proofs.Listings.{drawn-span}
 use Rattle.covering.specs.Covers.{Chosen, lutsIn}
-use Rattle.covering.proofs.Orders.{gate-below, gate-there, order-of-leaves, leaf-node}
+use Rattle.covering.proofs.Orders.{leaves-chosen}
 use Rattle.sheet.specs.Sheet.{Lut, Sheet, lutOf}
 use Rattle.sheet.specs.Rules.{Rule, Found, FirstBroken, Keeps, DepthKept, CoverKept, isListed, leavesListed, tableListed, lutsOf, lutRules, labelsOf, from, gates}
 use Rattle.weighing.specs.declared.luts.LutsJudged.{LutsJudged}
 use Rattle.weighing.specs.declared.luts.LutsJudged.the-variants as luts-judged
 use Rattle.weighing.specs.declared.whole.WholeJudged.{WholeJudged}
 use Rattle.weighing.specs.declared.whole.WholeJudged.the-variants as whole-judged
-use Rattle.weighing.specs.Laid.{DrawingLaid, LutsLaid}
+use Rattle.weighing.specs.Laid.{LutsLaid}
 use Rattle.weighing.specs.PassThree.{LutKept, KeptBelow, LutsRuled}
 use Rattle.weighing.specs.PassFour.{WholeRuled}
 use Rattle.inspecting.specs.Holding.{Ascends, rootOf}
@@ -117,7 +117,8 @@ module _ {a b : Net} {luts : Luts} (same : a .inputs ≡ b .inputs) where
   depth-kept : {lab lab′ : ℕ → ℕ} {outputs : List ℕ} {depth : ℕ} → greatest (map lab′ outputs) ≡ greatest (map lab outputs) → DepthKept a lab outputs luts depth → DepthKept b lab′ outputs luts depth
   depth-kept e d = record { reached = depths-elsewhere (d .reached); labelled = e ∙ d .labelled }
 
-module _ (net cuts : Net) (tables : ℕ → ℕ) (k : ℕ) (outputs : List ℕ) (sheet : Sheet) (span : net .inputs ≤ net .nodes) (inputs-same : cuts .inputs ≡ net .inputs) (nodes-same : cuts .nodes ≡ net .nodes)
+module _ (net cuts : Net) (tables : ℕ → ℕ) (k : ℕ) (outputs : List ℕ) (sheet : Sheet) (span : net .inputs ≤ net .nodes)
+    (inputs-same : cuts .inputs ≡ net .inputs) (nodes-same : cuts .nodes ≡ net .nodes)
     (lab : ℕ → ℕ) (labels-same : greatest (map lab outputs) ≡ greatest (map (labelsOf (net .inputs) (sheet .lines)) outputs)) where
   gate-member : {g : ℕ} → Gate cuts g → List·Memᴰ g (gates net)
   gate-member {g} gate = member-from (net .inputs) (net .nodes - net .inputs) g (omega (arith, gate .above)) (omega (arith, gate .below))
@@ -147,33 +148,25 @@ module _ (net cuts : Net) (tables : ℕ → ℕ) (k : ℕ) (outputs : List ℕ) 
 
 -- Leaves before their roots
 
-module _ (inputs nodes k : ℕ) (fan count order roots leaves sizes : List ℕ) (luts : List Lut) (drawing : DrawingLaid inputs nodes fan count order)
-    (laid : LutsLaid inputs nodes roots leaves sizes) (held : lutsIn inputs nodes leaves sizes roots ≡ lutsOf luts)
-    (cuts : (r : ℕ) → isListed luts r ≡ true → Cut (netIn inputs nodes fan count) k r (leavesListed luts r)) where
-  leaves-are : (v : ℕ) → netIn inputs nodes leaves sizes .fanins v ≡ leavesListed luts v
+module _ {inputs nodes k : ℕ} {fanins order roots cuts : List ℕ} (luts : List Lut) (drawing : Arranged inputs nodes k fanins order)
+    (laid : LutsLaid inputs nodes roots cuts) (held : lutsIn inputs nodes cuts roots ≡ lutsOf luts)
+    (each : (r : ℕ) → isListed luts r ≡ true → Cut (netIn inputs nodes fanins) k r (leavesListed luts r)) where
+  leaves-are : (v : ℕ) → netIn inputs nodes cuts .fanins v ≡ leavesListed luts v
   leaves-are v = ap (λ (l : Luts). l .leaves v) held
 
   -- a leaf is met by the walk from its root
-  leaf-met : (r u : ℕ) → Gate (netIn inputs nodes fan count) r → List·Memᴰ u (netIn inputs nodes leaves sizes .fanins r) →
-      Met (netIn inputs nodes fan count) (leavesListed luts r) r u
+  leaf-met : (r u : ℕ) → Gate (netIn inputs nodes fanins) r → List·Memᴰ u (netIn inputs nodes cuts .fanins r) →
+      Met (netIn inputs nodes fanins) (leavesListed luts r) r u
   leaf-met r u _ m = by (isListed luts r) refl
     where
       listed : List·Memᴰ u (leavesListed luts r)
       listed = rw (leaves-are r) at m
 
-      by : (b : Bool) → isListed luts r ≡ b → Met (netIn inputs nodes fan count) (leavesListed luts r) r u
-      by true at = cuts r at .met u listed
+      by : (b : Bool) → isListed luts r ≡ b → Met (netIn inputs nodes fanins) (leavesListed luts r) r u
+      by true at = each r at .met u listed
       by false none = absurd (List·Memᴰ·not-nil (rw (unlisted-leaves luts r none) at listed))
 
-  pub luts-chosen : Chosen inputs nodes order leaves sizes
+  pub luts-chosen : Chosen inputs nodes order cuts
   luts-chosen =
-      record {
-        span = drawn-span (drawing .drawn);
-        order-long = drawing .order-long;
-        leaves-long = laid .leaves-long;
-        sizes-long = laid .sizes-long;
-        six = λ g gate. laid .six g (gate-below inputs nodes leaves sizes gate);
-        leaf-nodes = λ g gate v m.
-            leaf-node inputs nodes 6 fan count order leaves sizes (drawing .drawn .bounded) (drawing .order-long) (drawing .ordered) (leavesListed luts) leaf-met (gate-there inputs nodes leaves sizes fan count gate) m;
-        ordered = order-of-leaves inputs nodes 6 fan count order leaves sizes (drawing .drawn .bounded) (drawing .order-long) (drawing .ordered) (leavesListed luts) leaf-met;
-      }
+      leaves-chosen inputs nodes k fanins order cuts drawing (leavesListed luts) leaf-met (laid .lists .long)
+      (λ g gate. laid .lists .six g (gate-below inputs nodes fanins gate))

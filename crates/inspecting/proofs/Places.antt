@@ -17,7 +17,8 @@ use Rattle.sheet.specs.declared.Fault.the-variants.{Extra}
 use Rattle.sheet.specs.declared.Ruling.{Ruling}
 use Rattle.sheet.specs.declared.Ruling.the-variants.{Sound, Faulty}
 use Rattle.sheet.specs.Sheet.{Line, Lut, Sheet}
-use Rattle.sheet.specs.Shape.{place, Due, fieldRules, endAt, lutAt, lutRuling, lutRange, lutLengthWrong, lineAt, lineRuling, lineRange, lineLengthWrong, headRuling, depthAt, countAt, Fields, andField, linesFrom, lutsFrom, afterHead, afterLines, afterLuts, reading}
+use Rattle.sheet.specs.Shape.{place, Due, fieldRules, endAt, lutAt, lutRuling, lutRange, lutLengthWrong, lineAt, lineRuling, lineRange, lineLengthWrong}
+use Rattle.sheet.specs.Shape.{headRuling, depthAt, countAt, Fields, andField, linesFrom, lutsFrom, afterHead, afterLines, afterLuts, reading}
 use Rattle.shaping.specs.Fields.{headLengthWrong, headOutOfRange}
 use Rattle.shaping.proofs.Values.{or-none}
 use Rattle.shaping.proofs.FieldRuns.{lut-kept, line-kept, head-kept}

@@ -1,21 +1,18 @@
 -- What a sound shape gives the later passes: roots that rise, and a sheet that is not too long for 32-bit places.
 use Prim.Native.Nat.{ℕ, zero, suc, _+_, _-_, _^_, _≤_, _<_}
 use native.Mathlib.Omega.{arith}
-use mathlib.Core.Path.{_≡_, refl, ap, sym, subst, _∙_}
-use mathlib.Core.Bool.{Bool, true, false, cond, _||_}
+use mathlib.Core.Path.{_≡_, ap, sym, subst}
+use mathlib.Core.Bool.{false, _||_}
 use mathlib.Core.Logic.{⊎-elim}
 use mathlib.Core.List.{List, List·Memᴰ, List·Memᴰ·not-nil, List·Memᴰ·cases-cons}
 use lib.ListN.{length, getD}
 use lib.Dec.{ltb, leb}
 use borrow.Author.Tests.{ltb-false, leb-false}
-use Rattle.sheet.specs.declared.Fault.{Fault}
-use Rattle.sheet.specs.declared.Fault.the-variants.{Extra}
-use Rattle.sheet.specs.declared.Ruling.the-variants.{Sound, Faulty}
+use Rattle.sheet.specs.declared.Ruling.the-variants.{Sound}
 use Rattle.sheet.specs.Sheet.{Lut, Sheet}
 use Rattle.sheet.specs.Shape.{Due, endAt, lutAt, lutRuling, leavesRange, countAt, lutsFrom, reading}
 use Rattle.shaping.proofs.Values.{or-none}
-use Rattle.shaping.proofs.FieldRuns.{lut-kept, head-kept, ruling-read}
-use Rattle.shaping.specs.Judging.{afterHeadRuling, afterLinesRuling}
+use Rattle.shaping.proofs.FieldRuns.{lut-kept, head-kept}
 use Rattle.shaping.proofs.Found.{first-sound, rest-sound, all-read, theLines, theLuts, whole}
 use Rattle.inspecting.specs.Holding.{Ascends, rootOf, RootsRise}
 use Rattle.inspecting.proofs.Places.{faultOr, head-numbers, field-short, lines-place, luts-place}
@@ -68,18 +65,6 @@ module _ (due : Due) (s : List ℕ) where
   -- Each field is at most 65,538 bytes long, and there are not many of them.
 
   module _ (bytes : (i : ℕ) → getD s i 0 < 256) where
-    no-extra : reading due s .ruling ≡ Sound → length s ≤ theLuts due s .next
-    unfolding afterHeadRuling afterLinesRuling
-    no-extra sound =
-        let all = whole due s sound in
-        let ruled = sym (ruling-read due s) ∙ sound in
-        let last = rw (all .head, all .lines, all .luts) at ruled in
-        ltb-false (theLuts due s .next) (length s) (by (ltb (theLuts due s .next) (length s)) (Extra (theLuts due s .next)) last)
-      where
-        by : (b : Bool) (f : Fault) → cond b (Faulty f) Sound ≡ Sound → b ≡ false
-        by true f e = let z : _≡_ {A = ℕ} 0 1 = cc in absurd (omega arith)
-        by false f e = refl
-
     pub sheet-short : due .nodes - due .inputs ≤ 192 → reading due s .ruling ≡ Sound → length s < 2 ^ 32
     sheet-short few sound =
         let all = whole due s sound in
@@ -87,7 +72,7 @@ module _ (due : Due) (s : List ℕ) where
         let luts = luts-place due s bytes (countAt due s) (due .inputs) (theLines due s .next) in
         omega (
           arith,
-          no-extra sound,
+          all .ended,
           head-numbers due s (all .head) .1,
           lines,
           ap (faultOr (theLines due s .next)) (all .lines),

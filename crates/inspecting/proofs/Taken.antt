@@ -1,22 +1,21 @@
 -- From the table taken to the promise: refusals and loops are the reply; else the arrays hold the table, and what is said of the sheet by the
 -- arrays is said of it by the bytes.
-use Prim.Native.Nat.{ℕ, _+_}
-use native.Mathlib.Omega.{arith}
+use Prim.Native.Nat.{ℕ}
 use mathlib.Core.Path.{_≡_, sym, subst}
 use mathlib.Core.List.{List, List·Memᴰ}
 use lib.ListN.{length, take}
+use Rattle.storage.specs.declared.Node.{Node}
+use Rattle.storage.specs.declared.Numbers.{Numbers}
+use Rattle.storage.specs.Drawings.{netIn, tablesIn}
 use Rattle.theory.specs.Net.{Net, Gate}
-use Rattle.theory.specs.Lookup.{ConeTable}
-use Rattle.drawing.specs.declared.Head.{Head}
-use Rattle.drawing.specs.declared.Node.{Node}
+use Rattle.theory.proofs.Cones.{cone-table-same}
 use Rattle.drawing.specs.declared.Refusal.{Refusal}
 use Rattle.drawing.specs.Fields.{headK, headI}
-use Rattle.drawing.specs.Table.{netOf, netIn, tablesIn, tablesOf}
+use Rattle.drawing.specs.Table.{netOf, tablesOf}
 use Rattle.drawing.specs.Reading.{arraysOf, found, tableOf, nodesOf}
 use Rattle.drawing.proofs.SoundTables.{table-sound}
 use Rattle.taking.specs.declared.Taking.the-variants as taking
 use Rattle.taking.specs.Judged.{Says, Ready}
-use Rattle.taking.proofs.Takings.{looser}
 use Rattle.taking.proofs.Judged.{TakenAs, refused-verdict, loop-said}
 use Rattle.sheet.specs.Sheet.{Sheet}
 use Rattle.sheet.specs.Rules.{Rule, Keeps, rulesOf}
@@ -37,39 +36,21 @@ module _ (t : List ℕ) {s : List ℕ} where
 
 -- A table taken
 
-module _ {s fan count rows outputs order : List ℕ} {h : Head} {n : ℕ} (taken : TakenAs s h n (arraysOf fan count rows outputs) order) where
-  pub table-laid : TableLaid (h .k .leaves) (h .inputs) (h .inputs + h .gates) n fan count rows outputs order
+module _ {s fanins rows outputs order : List ℕ} {n : Numbers} (taken : TakenAs s n (arraysOf fanins rows outputs) order) where
+  pub table-laid : TableLaid (n .k .leaves) (n .inputs) (n .nodes) (n .roots) fanins rows outputs order
   table-laid =
       let ready = taken .ready in
       let sound = table-sound s (ready .whole) in
-      subst (λ (g : Head). TableLaid (g .k .leaves) (g .inputs) (g .inputs + g .gates) n fan count rows outputs order) (sym (taken .head-is))
-      (subst (λ (m : ℕ). TableLaid (headK s) (headI s) (nodesOf s) m fan count rows outputs order) (sym (taken .count-is))
+      subst (λ (m : Numbers). TableLaid (m .k .leaves) (m .inputs) (m .nodes) (m .roots) fanins rows outputs order) (sym (taken .numbers-are))
       (record {
-        drawing =
-            record {
-              drawn =
-                  record {
-                    fan-long = ready .drawn .fan-long;
-                    count-long = ready .drawn .count-long;
-                    six = ready .drawn .six;
-                    bounded = looser (sound .head .k-most) (ready .drawn .bounded);
-                  };
-              ids = omega (arith, sound .head .nodes-most);
-              order-long = omega (arith, ready .order-long);
-              ordered = ready .ordered;
-            };
-        drawn = ready .drawn;
+        drawing = ready .drawing;
         most = sound .head .nodes-most;
-        small = sound .head .k-most;
         rows-long = ready .rows-long;
         outputs-long = ready .outputs-long;
         output-nodes = λ v m. sound .nodes-only v (subst (List·Memᴰ v) (ready .outputs-held) m);
-      }))
+      })
 
 -- From arrays to bytes
-
-cone-tables : {net : Net} {tables tables′ : ℕ → ℕ} → ((v : ℕ) → Gate net v → tables v ≡ tables′ v) → {leaves : List ℕ} {t x : ℕ} → ConeTable net tables leaves t x → ConeTable net tables′ leaves t x
-cone-tables same c = record { value = λ y obeys. c .value y (λ g cone. rw (same g (cone .gate)) (obeys g cone)); rows = c .rows }
 
 keeps-tables : {net : Net} {tables tables′ : ℕ → ℕ} (k : ℕ) (outputs : List ℕ) (sheet : Sheet) → ((v : ℕ) → Gate net v → tables v ≡ tables′ v) →
     (r : Rule) → Keeps net tables k outputs sheet r → Keeps net tables′ k outputs sheet r
@@ -77,36 +58,34 @@ unfolding Keeps
 keeps-tables k outputs sheet same (Rule.cut gate leaves) kept = kept
 keeps-tables k outputs sheet same (Rule.label gate) kept = kept
 keeps-tables k outputs sheet same (Rule.paths gate) kept = kept
-keeps-tables k outputs sheet same (Rule.function lut) kept = cone-tables same kept
+keeps-tables k outputs sheet same (Rule.function lut) kept = cone-table-same same kept
 keeps-tables k outputs sheet same (Rule.cover gate) kept = kept
 keeps-tables k outputs sheet same Rule.depth kept = kept
 
-module _ (s t : List ℕ) {fan count rows outputs order : List ℕ} (ready : Ready s fan count rows outputs order) where
+-- the first rule broken, for a net, its tables and its outputs
+abbrev Said : (s t : List ℕ) → Net → (ℕ → ℕ) → List ℕ → Inspection → Type 0
+Said s t net tables outputs r = Replies (Keeps net tables (headK s) outputs (sheetIn s t)) (rulesOf net (sheetIn s t)) (sheetIn s t .depth) r
+
+module _ (s t : List ℕ) {fanins rows outputs order : List ℕ} (ready : Ready s fanins rows outputs order) where
   replies-bytes : {r : Inspection} →
-      Replies (Keeps (netIn (headI s) (nodesOf s) fan count) (tablesIn rows) (headK s) (take (length (found s .outputs)) outputs) (sheetIn s t))
-      (rulesOf (netIn (headI s) (nodesOf s) fan count) (sheetIn s t)) (sheetIn s t .depth) r →
-      Replies (Keeps (netOf (tableOf s)) (tablesOf (tableOf s)) (headK s) (found s .outputs) (sheetIn s t)) (rulesOf (netOf (tableOf s)) (sheetIn s t)) (sheetIn s t .depth) r
+      Said s t (netIn (headI s) (nodesOf s) fanins) (tablesIn rows) (take (length (found s .outputs)) outputs) r →
+      Said s t (netOf (tableOf s)) (tablesOf (tableOf s)) (found s .outputs) r
   replies-bytes {r} p =
-      let q = subst (λ (net : Net). Replies (Keeps net (tablesIn rows) (headK s) (take (length (found s .outputs)) outputs) (sheetIn s t)) (rulesOf net (sheetIn s t)) (sheetIn s t .depth) r) (ready .net) p in
-      let q′ = subst (λ (outs : List ℕ). Replies (Keeps (netOf (tableOf s)) (tablesIn rows) (headK s) outs (sheetIn s t)) (rulesOf (netOf (tableOf s)) (sheetIn s t)) (sheetIn s t .depth) r) (ready .outputs-held) q in
-      record {
-        found = q′ .found;
-        first =
-            first-as (keeps-tables (headK s) (found s .outputs) (sheetIn s t) (ready .tables))
-            (keeps-tables (headK s) (found s .outputs) (sheetIn s t) (λ v gate. sym (ready .tables v gate))) (q′ .first);
-        reply = q′ .reply;
-      }
+      let q = subst (λ (net : Net). Said s t net (tablesIn rows) (take (length (found s .outputs)) outputs) r) (ready .net) p in
+      let q′ = subst (λ (outs : List ℕ). Said s t (netOf (tableOf s)) (tablesIn rows) outs r) (ready .outputs-held) q in
+      let kept = keeps-tables (headK s) (found s .outputs) (sheetIn s t) (ready .tables) in
+      let back = keeps-tables (headK s) (found s .outputs) (sheetIn s t) (λ v gate. sym (ready .tables v gate)) in
+      record { found = q′ .found; first = first-as kept back (q′ .first); reply = q′ .reply }
 
   drawable : Drawable s t
   drawable = record { whole = ready .whole; no-loop = ready .no-loop }
 
-  says-sheet : {r : Inspection} → SheetRuled (headK s) (headI s) (nodesOf s) fan count rows (take (length (found s .outputs)) outputs) t r → Inspects s t r
+  says-sheet : {r : Inspection} → SheetRuled (headK s) (headI s) (nodesOf s) fanins rows (take (length (found s .outputs)) outputs) t r → Inspects s t r
   says-sheet (SheetRuled.faulty e) = Inspects.faulty drawable e
   says-sheet (SheetRuled.ruled sound p) = let q = replies-bytes p in rw (q .reply) (Inspects.ruled drawable sound (q .first))
 
-pub says-taken : (t : List ℕ) {s fan count rows outputs order : List ℕ} {h : Head} {n : ℕ} → TakenAs s h n (arraysOf fan count rows outputs) order →
-    {r : Inspection} → SheetRuled (h .k .leaves) (h .inputs) (h .inputs + h .gates) fan count rows (take n outputs) t r → Inspects s t r
-says-taken t {s} {fan} {count} {rows} {outputs} {n = n} taken {r} said =
-    let named = subst (λ (g : Head). SheetRuled (g .k .leaves) (g .inputs) (g .inputs + g .gates) fan count rows (take n outputs) t r) (taken .head-is) said in
+pub says-taken : (t : List ℕ) {s fanins rows outputs order : List ℕ} {n : Numbers} → TakenAs s n (arraysOf fanins rows outputs) order →
+    {r : Inspection} → SheetRuled (n .k .leaves) (n .inputs) (n .nodes) fanins rows (take (n .roots) outputs) t r → Inspects s t r
+says-taken t {s} {fanins} {rows} {outputs} taken {r} said =
     says-sheet s t (taken .ready)
-    (subst (λ (j : ℕ). SheetRuled (headK s) (headI s) (nodesOf s) fan count rows (take j outputs) t r) (taken .count-is) named)
+    (subst (λ (m : Numbers). SheetRuled (m .k .leaves) (m .inputs) (m .nodes) fanins rows (take (m .roots) outputs) t r) (taken .numbers-are) said)

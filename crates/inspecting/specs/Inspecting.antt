@@ -6,13 +6,14 @@ use mathlib.Core.List.{List, List·Memᴰ}
 use Rattle.drawing.specs.declared.Refusal.{Refusal}
 use Rattle.drawing.specs.declared.Verdict.the-variants as verdict
 use Rattle.drawing.specs.Refusals as table-refusals
-use Rattle.drawing.specs.Fields.{headK, headI}
+use Rattle.drawing.specs.Fields.{headK}
 use Rattle.drawing.specs.Table.{netOf, tablesOf}
-use Rattle.drawing.specs.Reading.{found, tableOf, nodesOf}
+use Rattle.drawing.specs.Reading.{found, tableOf, nodesOf, sourcesOf, rootsOf}
 use Rattle.walking.specs.declared.Ordering.the-variants as made
 use Rattle.walking.specs.Promises.{LoopRuling}
 use Rattle.sheet.specs.declared.Fault.{Fault}
 use Rattle.sheet.specs.declared.Ruling.the-variants as ruling
+use Rattle.sheet.specs.Limits.{mostDepth}
 use Rattle.sheet.specs.Sheet.{Sheet}
 use Rattle.sheet.specs.Encoding.{narrow}
 use Rattle.sheet.specs.Shape as shape
@@ -57,12 +58,12 @@ replyOf depth (Found.broken (Rule.function lut)) = Function (record { id = lut .
 replyOf depth (Found.broken (Rule.cover gate)) = Cover (record { id = gate })
 replyOf depth (Found.broken Rule.depth) = Depth
 
--- what a sheet is read for: ids of one byte, labels and depth up to 191, and the table's K, I and n
+-- what a sheet is read for: ids of one byte, labels and depth up to the greatest, and the table's K, I and n
 abbrev pub dueFor : (k inputs nodes : ℕ) → Due
-dueFor k inputs nodes = dueFrom narrow 191 k inputs nodes
+dueFor k inputs nodes = dueFrom narrow mostDepth k inputs nodes
 
 abbrev pub dueIn : List ℕ → Due
-dueIn s = dueFor (headK s) (headI s) (nodesOf s)
+dueIn s = dueFor (headK s) (sourcesOf s) (nodesOf s)
 
 module _ (s t : List ℕ) where
   -- the table reads whole and has no loop
@@ -75,7 +76,7 @@ module _ (s t : List ℕ) where
   sheetIn = reading (dueIn s) t .sheet
 
   abbrev pub KeepsIn : Rule → Type 0
-  KeepsIn = Keeps (netOf (tableOf s)) (tablesOf (tableOf s)) (headK s) (found s .outputs) sheetIn
+  KeepsIn = Keeps (netOf (tableOf s)) (tablesOf (tableOf s)) (headK s) (rootsOf s) sheetIn
 
   abbrev pub rulesIn : List Rule
   rulesIn = rulesOf (netOf (tableOf s)) sheetIn

@@ -1,22 +1,17 @@
 -- The test of a fanin by a loop over the fanins.
 use Prim.Native.Nat.{ℕ, _+_, _*_, _≤_, _<_}
-use mathlib.Core.Path.{_≡_, sym, _∙_}
+use mathlib.Core.Path.{_≡_, sym}
 use mathlib.Core.Bool.{true, false}
 use mathlib.Core.List.{List, Memᴰ·cast}
-use lib.ListN.{length, getD, drop}
-use lib.Seq.{getD-drop}
+use lib.ListN.{length}
 use Rattle.theory.specs.Lists.{isMember}
-use Rattle.walking.specs.Listing.{faninsAt}
-use Rattle.walking.proofs.Entries.{is-member, no-member}
-use Rattle.walking.proofs.Tests.{none-of-part}
-use Rattle.area.proofs.Parts.{member-of-part}
+use Rattle.storage.specs.Lists.{sizeAt, entryAt, listAt}
+use Rattle.storage.proofs.Entries.{is-member, no-member}
+use Rattle.storage.proofs.InLists.{list-member, list-place}
 
-module _ (fan count : List ℕ) (gate node : ℕ) where
-  pub fanin-found : 6 * gate + getD count gate 0 ≤ length fan → (i : ℕ) → i < getD count gate 0 → getD fan (6 * gate + i) 0 ≡ node →
-      isMember node (faninsAt fan count gate) ≡ true
-  fanin-found long i low e =
-      is-member (Memᴰ·cast (sym e) (member-of-part fan (6 * gate) (getD count gate 0) long i low))
+module _ (fanins : List ℕ) (gate node : ℕ) (long : 7 * gate + 7 ≤ length fanins) (six : sizeAt fanins gate ≤ 6) where
+  pub fanin-found : (i : ℕ) → i < sizeAt fanins gate → entryAt fanins gate i ≡ node → isMember node (listAt fanins gate) ≡ true
+  fanin-found i low e = is-member (Memᴰ·cast (sym e) (list-member fanins gate long six i low))
 
-  pub no-fanin : ((i : ℕ) → i < getD count gate 0 → getD fan (6 * gate + i) 0 ≡ node → ⊥) → isMember node (faninsAt fan count gate) ≡ false
-  no-fanin none =
-      no-member (none-of-part (getD count gate 0) (drop (6 * gate) fan) node (λ i low e. none i low (sym (getD-drop (6 * gate) fan i 0) ∙ e)))
+  pub no-fanin : ((i : ℕ) → i < sizeAt fanins gate → entryAt fanins gate i ≡ node → ⊥) → isMember node (listAt fanins gate) ≡ false
+  no-fanin none = no-member (λ m. let (i, low, e) = list-place fanins gate long six m in none i low e)

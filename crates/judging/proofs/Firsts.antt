@@ -2,9 +2,9 @@
 use Prim.Native.Nat.{ℕ}
 use mathlib.Core.Path.{_≡_, refl, sym, subst}
 use mathlib.Core.List.{List, [], _∷_, flatMap}
+use Rattle.storage.specs.declared.Node.{Node}
 use Rattle.theory.specs.Net.{Net}
 use Rattle.theory.specs.Walk.{Cut}
-use Rattle.drawing.specs.declared.Node.{Node}
 use Rattle.sheet.specs.Sheet.{Line, Lut}
 use Rattle.sheet.specs.Rules.{FirstBroken, Keeps, LabelKept, PathsKept, labelsOf, lineOfNode, gateRules}
 use Rattle.sheet.proofs.Firsts.{first-before, first-after}
@@ -27,10 +27,14 @@ module _ (net : Net) (k : ℕ) (lines : List Line) (node : Node) where
   -- the rules of a sheet with these lines
   at-lines : (r : Judged) →
       ((tables : ℕ → ℕ) (outputs : List ℕ) (depth : ℕ) (luts : List Lut) →
-      FirstBroken (Keeps net tables k outputs (record { depth = depth; lines = lines; luts = luts })) (flatMap (gateRules (net .inputs) lines) (node .id ∷ [])) (foundOf (net .inputs) lines r)) →
+      FirstBroken (Keeps net tables k outputs (record { depth = depth; lines = lines; luts = luts })) (flatMap (gateRules (net .inputs) lines) (node .id ∷ []))
+      (foundOf (net .inputs) lines r)) →
       Judges net k lines (node .id ∷ []) r
   at-lines r first tables outputs sheet e =
-      subst (λ (ls : List Line). FirstBroken (Keeps net tables k outputs (record { depth = sheet .depth; lines = ls; luts = sheet .luts })) (flatMap (gateRules (net .inputs) lines) (node .id ∷ [])) (foundOf (net .inputs) lines r))
+      subst
+      (λ (ls : List Line).
+      FirstBroken (Keeps net tables k outputs (record { depth = sheet .depth; lines = ls; luts = sheet .luts }))
+      (flatMap (gateRules (net .inputs) lines) (node .id ∷ [])) (foundOf (net .inputs) lines r))
       (sym e) (first tables outputs (sheet .depth) (sheet .luts))
 
   pub cut-broken : (CutHere → ⊥) → Judges net k lines (node .id ∷ []) (judged.Cut node)

@@ -5,47 +5,42 @@ use mathlib.Core.Path.{_≡_, refl, sym, ap, _∙_}
 use mathlib.Core.Logic.{inl, inr, ⊎-elim}
 use mathlib.Core.Bool.{Bool, true, false, false≢true}
 use mathlib.Core.List.{List, [], map}
-use lib.ListN.{length, getD, take, drop, length-drop}
-use lib.Seq.{take-all}
+use lib.ListN.{length, drop, length-drop}
 use lib.Dec.{eqb}
+use Rattle.storage.specs.Marks.{Tells}
+use Rattle.storage.specs.Lists.{sizeAt}
+use Rattle.storage.specs.Roles.{areaBit, areaIn, endsIn}
+use Rattle.storage.specs.Drawings.{netIn}
+use Rattle.storage.proofs.Clears.{beyond-then}
+use Rattle.storage.proofs.Views.{view-size}
+use Rattle.storage.proofs.Drawings.{gate-below, fed-in}
+use Rattle.storage.proofs.InMarks.{tells-yes, tells-no}
 use Rattle.theory.specs.Net.{Net}
 use Rattle.theory.specs.Lists.{greatest}
 use Rattle.theory.specs.Evidence.{peak, Owes, joined}
 use Rattle.theory.proofs.Tests.{Decides, decides-as, decides-equal}
-use Rattle.drawing.specs.Table.{netIn}
 use Rattle.drawing.specs.Bytes.{numberAt}
-use Rattle.walking.specs.Listing.{Tells}
 use Rattle.walking.specs.Promises.{WalkRoom, WalkMade}
-use Rattle.walking.proofs.Listings.{drawn-six}
-use Rattle.walking.proofs.Tests.{tells-yes, tells-no}
 use Rattle.area.specs.Area.{labelIn, AreaAsked, AreaMarked}
-use Rattle.area.proofs.Parts.{fed-in}
 use Rattle.covering.specs.Covers.{DepthAsked}
 use Rattle.sheet.specs.declared.Form.{Form}
 use Rattle.sheet.specs.Shape.{pathEnd, pathsAt}
 use Rattle.sheet.specs.Rules.{PathsKept}
 use Rattle.judging.specs.Paths.{arePaths, PathsAsked, PathsTold}
-use Rattle.judging.specs.Gates.{scratchOf, Scratch, BeyondKept, LabelAsked, LabelRight, AtGate, EvidenceAsked, TruePaths, Told, PathsRuleAsked, pathsPlace}
+use Rattle.judging.specs.Gates.{LabelAsked, LabelRight, AtGate, EvidenceAsked, TruePaths, Told, PathsRuleAsked, pathsPlace}
 use Rattle.judging.proofs.True.{decides-evidence}
 use Rattle.judging.proofs.Lines.{paths-stand}
-
--- the rest of a list from a place on, as a part of a slice has it
-pub rest-whole : (l : List ℕ) (n : ℕ) → take (length l - n) (drop n l) ≡ drop n l
-rest-whole l n = take-all (length l - n) (drop n l) (omega (arith, length-drop n l))
 
 -- a reply that is a test tells what the test decides
 pub tells-decided : {test r : Bool} {P : Type 0} → Decides test P → r ≡ test → Tells P r
 tells-decided decides e =
     record { yes = λ yes. decides .holds (sym e ∙ yes); no = λ no p. false≢true (sym no ∙ e ∙ decides .passes p) }
 
-pub beyond-same : (nodes : ℕ) (s : Scratch) → BeyondKept nodes s s
-beyond-same nodes s = record { walked-beyond = refl; met-beyond = refl; area-beyond = refl; ends-beyond = refl }
-
 -- 26
 
-pub depth-asked : {labels leaves sizes : List ℕ} {t : ℕ} → LabelAsked labels leaves sizes t → DepthAsked labels (drop (6 * t) leaves) (getD sizes t 0)
-depth-asked {leaves = leaves} {t = t} asked =
-    record { outputs-long = omega (arith, asked .placed, length-drop (6 * t) leaves); labelled = asked .leaves-labelled }
+pub depth-asked : {labels cuts : List ℕ} {t : ℕ} → LabelAsked labels cuts t → DepthAsked labels (drop (7 * t + 1) cuts) (sizeAt cuts t)
+depth-asked {cuts = cuts} {t = t} asked =
+    record { outputs-long = omega (arith, asked .long, asked .six, length-drop (7 * t + 1) cuts); labelled = asked .leaves-labelled }
 
 module _ {lab : ℕ → ℕ} {leaves : List ℕ} (p t : ℕ) {label deepest : ℕ} (read : label ≡ lab t) (greatest-read : deepest ≡ greatest (map lab leaves)) where
   pub label-unshown : (label ≡ deepest + 1 → ⊥) → Tells (LabelRight lab leaves p t) false
@@ -65,65 +60,54 @@ module _ {lab : ℕ → ℕ} {leaves : List ℕ} (p t : ℕ) {label deepest : �
 
 -- 27: the paths
 
-module _ {inputs nodes : ℕ} {fan count order : List ℕ} {t : ℕ} {labels : List ℕ} {p : ℕ} {bytes : List ℕ} {at width q : ℕ} {walked met area ends : List ℕ}
-    (asked : EvidenceAsked inputs nodes fan count order t labels p bytes at width q (scratchOf walked met area ends)) where
-  abbrev here : AtGate inputs nodes (asked .k) fan count order t labels p (scratchOf walked met area ends)
+module _ {inputs nodes k : ℕ} {fanins order : List ℕ} {t : ℕ} {labels : List ℕ} {p : ℕ} {bytes : List ℕ} {at width q : ℕ} {roles : List ℕ}
+    (asked : EvidenceAsked inputs nodes k fanins order t labels p bytes at width q roles) where
+  abbrev here : AtGate inputs nodes k fanins order t labels p roles
   here = asked .at-gate
 
-  node-here : t < nodes
-  unfolding netIn
-  node-here = here .gate .below
-
-  pub walk-asked : (leaves : List ℕ) → WalkRoom inputs nodes fan count order t leaves 0 walked met
+  pub walk-asked : (leaves : List ℕ) → WalkRoom inputs nodes k fanins order t leaves 0 roles
   walk-asked leaves =
       record {
-        drawn = drawn-six (here .drawn);
-        ordered = here .ordered;
-        order-long = here .order-long;
-        ids = here .ids;
-        node = node-here;
+        drawing = here .drawing;
+        node = gate-below inputs nodes fanins (here .gate);
         leaves-long = omega arith;
-        walked-long = here .long .walked-long;
-        met-long = here .long .met-long;
+        roles-long = here .roles-long;
       }
 
-  pub paths-asked : {free ends′ : List ℕ} → nodes ≤ length free → nodes ≤ length ends′ → PathsAsked fan count bytes at width q free ends′
-  paths-asked free-long ends-long =
-      record {
-        nodes = nodes;
-        room = record {
-          ids = here .ids;
-          fed = λ v low. fed-in (here .drawn) v low nodes (omega arith);
-          free-long = free-long;
-          ends-long = ends-long;
-        };
-        stand = asked .stand;
-      }
-
-  module _ {walked′ met′ : List ℕ} (walk : WalkMade (netIn inputs nodes fan count) [] t walked met walked′ met′) where
-    pub area-asked : AreaAsked inputs nodes fan count t labels p met′ walked′ area ends
+  module _ {roles₁ : List ℕ} (walk : WalkMade (netIn inputs nodes fanins) [] t roles roles₁) where
+    pub area-asked : AreaAsked inputs nodes fanins t labels p roles₁
     unfolding netIn
     area-asked =
         record {
-          k = asked .k;
-          drawn = here .drawn;
-          ids = here .ids;
+          k = k;
+          drawn = here .drawing .drawn;
+          small = here .drawing .small;
           gate-stands = here .gate;
           peak-known = here .peak-known;
           behind-known = walk .met-marks;
           labels-long = here .labels-long;
-          met-long = omega (arith, walk .met-size, here .long .met-long);
-          deep-long = omega (arith, walk .walked-size, here .long .walked-long);
-          area-long = here .long .area-long;
-          ends-long = here .long .ends-long;
+          roles-long = omega (arith, walk .rest .size, here .roles-long);
         }
 
-    module _ {deep area′ ends′ : List ℕ} (area-size : length area′ ≡ length area)
-        (marked : AreaMarked (netIn inputs nodes fan count) (labelIn labels) t walked′ deep area area′ ends ends′) where
-      pub evidence-told : {r : Bool} {area″ : List ℕ} →
-          PathsTold (arePaths fan count ends′ inputs area′ (pathsAt bytes at width q)) (joined (pathsAt bytes at width q)) area′ r area″ →
-          Told nodes (TruePaths (netIn inputs nodes fan count) (labelIn labels) t (pathsAt bytes at width q)) (scratchOf walked met area ends) r
-          (scratchOf deep met′ area″ ends′)
+    module _ {roles₂ : List ℕ} (marked : AreaMarked (netIn inputs nodes fanins) (labelIn labels) t roles₁ roles₂) where
+      still-long : nodes ≤ length roles₂
+      still-long = omega (arith, marked .rest .size, walk .rest .size, here .roles-long)
+
+      pub paths-asked : PathsAsked fanins bytes at width q roles₂
+      paths-asked =
+          record {
+            nodes = nodes;
+            room = record {
+              small = here .drawing .small;
+              fed = λ v low. fed-in (here .drawing .drawn) v low nodes (omega arith);
+              roles-long = still-long;
+            };
+            stand = asked .stand;
+          }
+
+      pub evidence-told : {r : Bool} {roles₃ : List ℕ} →
+          PathsTold (arePaths fanins (endsIn roles₂) inputs (areaIn roles₂) (pathsAt bytes at width q)) (joined (pathsAt bytes at width q)) roles₂ r roles₃ →
+          Told nodes (TruePaths (netIn inputs nodes fanins) (labelIn labels) t (pathsAt bytes at width q)) roles r roles₃
       unfolding netIn
       evidence-told told =
           record {
@@ -132,14 +116,10 @@ module _ {inputs nodes : ℕ} {fan count order : List ℕ} {t : ℕ} {labels : L
                 (decides-as
                 (λ k. record { each = k .0; apart = k .1 })
                 (λ true-paths. (true-paths .each, true-paths .apart))
-                (decides-evidence inputs nodes fan count (labelIn labels) t (marked .ends-marked .marks) (omega (arith, area-size, here .long .area-long)) (marked .area-marked .marks) (pathsAt bytes at width q) (asked .stand .below)))
+                (decides-evidence inputs nodes fanins (labelIn labels) t (marked .ends-marked) (omega (arith, still-long, view-size areaBit roles₂))
+                (marked .area-marked) (pathsAt bytes at width q) (asked .stand .below)))
                 (told .reply);
-            beyond = record {
-              walked-beyond = marked .deep-marked .beyond ∙ walk .walked-beyond;
-              met-beyond = walk .met-beyond;
-              area-beyond = told .beyond nodes (asked .stand .below) ∙ marked .area-marked .beyond;
-              ends-beyond = marked .ends-marked .beyond;
-            };
+            rest = beyond-then (walk .rest) (beyond-then (marked .rest) (told .beyond nodes (asked .stand .below)));
           }
 
 -- 27: when they are due
@@ -186,15 +166,14 @@ module _ {net : Net} (k : ℕ) {lab : ℕ → ℕ} {t p : ℕ} (peak-known : p �
           no = λ e kept. let evidence = kept .due (due-owes due) in told .no e (record { each = evidence .each; apart = evidence .apart });
         }
 
-pub evidence-asked : {form : Form} {inputs nodes k : ℕ} {fan count order : List ℕ} {t : ℕ} {labels : List ℕ} {p : ℕ} {bytes : List ℕ} {at : ℕ} {s : Scratch} →
-    PathsRuleAsked form inputs nodes k fan count order t labels p bytes at s →
-    EvidenceAsked inputs nodes fan count order t labels p bytes (pathsPlace form bytes at + 1) (form .width) (numberAt bytes (pathsPlace form bytes at) 1) s
-evidence-asked {k = k} asked = record { k = k; at-gate = asked .at-gate; stand = paths-stand (asked .line) }
+pub evidence-asked : {form : Form} {inputs nodes k : ℕ} {fanins order : List ℕ} {t : ℕ} {labels : List ℕ} {p : ℕ} {bytes : List ℕ} {at : ℕ} {roles : List ℕ} →
+    PathsRuleAsked form inputs nodes k fanins order t labels p bytes at roles →
+    EvidenceAsked inputs nodes k fanins order t labels p bytes (pathsPlace form bytes at + 1) (form .width) (numberAt bytes (pathsPlace form bytes at) 1) roles
+evidence-asked asked = record { at-gate = asked .at-gate; stand = paths-stand (asked .line) }
 
-pub label-inside : {inputs nodes k : ℕ} {fan count order : List ℕ} {t : ℕ} {labels : List ℕ} {p : ℕ} {s : Scratch} →
-    AtGate inputs nodes k fan count order t labels p s → t < length labels
-unfolding netIn
-label-inside at-gate = omega (arith, at-gate .gate .below, at-gate .labels-long)
+pub label-inside : {inputs nodes k : ℕ} {fanins order : List ℕ} {t : ℕ} {labels : List ℕ} {p : ℕ} {roles : List ℕ} →
+    AtGate inputs nodes k fanins order t labels p roles → t < length labels
+label-inside {inputs} {nodes} {fanins = fanins} at-gate = omega (arith, gate-below inputs nodes fanins (at-gate .gate), at-gate .labels-long)
 
 -- the q that is read
 pub q-read : (s : List ℕ) {place found q : ℕ} → found ≡ place → q ≡ numberAt s found 1 → q ≡ numberAt s place 1

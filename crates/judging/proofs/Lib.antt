@@ -1,4 +1,5 @@
 pub mod Feeding
+pub mod Taking
 pub mod Runs
 pub mod True
 pub mod Lines

@@ -2,14 +2,13 @@
 use Prim.Native.Nat.{ℕ}
 use mathlib.Core.Path.{_≡_, refl, sym, ap, _∙_}
 use mathlib.Core.List.{List, []}
-use Rattle.drawing.specs.Table.{netIn}
-use Rattle.covering.proofs.Answers.{cleared-once}
+use Rattle.storage.specs.Drawings.{netIn}
 use Rattle.sheet.specs.Sheet.{Line, Sheet}
 use Rattle.sheet.specs.Rules.{Rule, Found}
 use Rattle.sheet.proofs.Firsts.{first-is-one}
 use Rattle.judging.specs.declared.Judged.{Judged}
 use Rattle.judging.specs.declared.Judged.the-variants as judged
-use Rattle.judging.specs.Gates.{foundOf, Lined, Scratch, JudgeAsked, GatesJudged}
+use Rattle.judging.specs.Gates.{foundOf, Lined, JudgeAsked, GatesJudged}
 
 -- the reply that names a rule
 abbrev replyOf : Found → Judged
@@ -27,8 +26,8 @@ reply-back inputs lines (judged.Cut gate) = refl
 reply-back inputs lines (judged.Label gate) = refl
 reply-back inputs lines (judged.Paths gate) = refl
 
-module _ {k inputs nodes : ℕ} {fan count order : List ℕ} {l : Lined} {s : Scratch} (asked : JudgeAsked k inputs nodes fan count order l s)
-    {r q : Judged} {s′ s″ : Scratch} (a : GatesJudged k inputs nodes fan count l s r s′) (b : GatesJudged k inputs nodes fan count l s q s″) where
+module _ {k inputs nodes : ℕ} {fanins order : List ℕ} {l : Lined} {roles : List ℕ} (asked : JudgeAsked k inputs nodes fanins order l roles)
+    {r q : Judged} {roles′ roles″ : List ℕ} (a : GatesJudged k inputs nodes fanins l roles r roles′) (b : GatesJudged k inputs nodes fanins l roles q roles″) where
   pub reply-once : r ≡ q
   unfolding netIn
   reply-once =
@@ -37,10 +36,5 @@ module _ {k inputs nodes : ℕ} {fan count order : List ℕ} {l : Lined} {s : Sc
       let second = b .reply (asked .most) (asked .lines) (asked .holds) (λ v. 0) [] sheet refl in
       sym (reply-back inputs (asked .lines) r) ∙ ap replyOf (first-is-one first second) ∙ reply-back inputs (asked .lines) q
 
-  pub marks-once : s′ ≡ s″
-  marks-once =
-      let walked = cleared-once nodes (s .walked) (s′ .walked) (s″ .walked) (a .cleared .walked-cleared) (b .cleared .walked-cleared) in
-      let met = cleared-once nodes (s .met) (s′ .met) (s″ .met) (a .cleared .met-cleared) (b .cleared .met-cleared) in
-      let area = cleared-once nodes (s .area) (s′ .area) (s″ .area) (a .cleared .area-cleared) (b .cleared .area-cleared) in
-      let ends = cleared-once nodes (s .ends) (s′ .ends) (s″ .ends) (a .cleared .ends-cleared) (b .cleared .ends-cleared) in
-      λ i. record { walked = walked i; met = met i; area = area i; ends = ends i }
+  pub roles-once : roles′ ≡ roles″
+  roles-once = a .roles-clear ∙ sym (b .roles-clear)

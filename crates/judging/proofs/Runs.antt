@@ -5,18 +5,21 @@ use native.Mathlib.Nat.{suc-mul}
 use mathlib.Core.Path.{_≡_, refl, sym, ap, _∙_}
 use mathlib.Core.Bool.{Bool, true, false, false≢true, _&&_}
 use mathlib.Core.List.{List, [], _∷_, List·Memᴰ, List·Memᴰ·head, List·Memᴰ·tail, Memᴰ·append-left, Memᴰ·append-right}
-use lib.ListN.{length, getD, set, drop, length-set}
-use lib.Seq.{drop-set-lt}
+use lib.ListN.{length, set}
 use lib.Dec.{eqb, ltb}
 use borrow.Author.Tests.{eqb-true, eqb-false}
+use Rattle.storage.specs.Entries.{Beyond}
+use Rattle.storage.specs.Lists.{sizeAt, listAt}
+use Rattle.storage.specs.Roles.{areaIn, endsIn}
+use Rattle.storage.proofs.Clears.{beyond-same, beyond-then}
 use Rattle.theory.specs.Evidence.{joined}
 use Rattle.theory.proofs.Tests.{_and-then_, decides-le, decides-itself}
 use Rattle.drawing.specs.Bytes.{numberAt}
 use Rattle.drawing.proofs.SoundFields.{neither}
 use Rattle.theory.specs.Lists.{isMember}
-use Rattle.walking.specs.Listing.{faninsAt}
 use Rattle.sheet.specs.Shape.{idsAt, pathEnd, pathsAt, pathsUse, someEmpty, Below}
-use Rattle.judging.specs.Paths.{isMarked, afterPath, goesOn, isPath, arePaths, PathRoom, IdsStand, GoesAsked, PathAsked, PathTold, PathsStand, PathsAsked, PathsTold}
+use Rattle.judging.specs.Paths.{isMarked, afterPath, goesOn, isPath, arePaths, Taken, PathRoom, IdsStand, GoesAsked, PathAsked, PathTold, PathsStand, PathsAsked, PathsTold}
+use Rattle.judging.proofs.Taking.{taken-area, taken-ends, taken-size, taken-beyond}
 
 -- Ids
 
@@ -53,32 +56,37 @@ module _ {nodes : ℕ} {s : List ℕ} {at width size : ℕ} (stand : IdsStand no
 
 -- A path goes on
 
-module _ {nodes : ℕ} {fan count free ends : List ℕ} (room : PathRoom nodes fan count free ends) where
-  pub room-after : (v : ℕ) → PathRoom nodes fan count (set free v 0) ends
-  room-after v =
-      record { ids = room .ids; fed = room .fed; free-long = simp length-set (room .free-long); ends-long = room .ends-long }
+module _ {nodes : ℕ} {fanins roles : List ℕ} (room : PathRoom nodes fanins roles) where
+  pub room-after : {roles′ : List ℕ} → length roles′ ≡ length roles → PathRoom nodes fanins roles′
+  room-after size = record { small = room .small; fed = room .fed; roles-long = omega (arith, room .roles-long) }
 
   pub id-asks : {s : List ℕ} {at width size : ℕ} → IdsStand nodes s at width size → 1 ≤ size →
       (width ≤ 8) × ((at + width ≤ length s) × (numberAt s at width < 65536))
-  id-asks stand some = let low = id-node stand some in (stand .narrow, (id-inside stand some, omega (arith, room .ids)))
+  id-asks stand some = let low = id-node stand some in (stand .narrow, (id-inside stand some, omega (arith, room .small)))
 
-  pub follows-asks : (v : ℕ) → v < nodes → (v < length count) × ((6 * v + getD count v 0 ≤ length fan) × (v < length free))
-  follows-asks v low = let fed = room .fed v low in (fed .counted, (fed .fan-long, omega (arith, room .free-long)))
+  pub follows-asks : (v : ℕ) → v < nodes → (7 * v + 7 ≤ length fanins) × ((sizeAt fanins v ≤ 6) × (v < length roles))
+  follows-asks v low = let fed = room .fed v low in (fed .long, (fed .six, omega (arith, room .roles-long)))
 
--- The state of a path that has come to node u by the ids before place `at`; it started at u₀ with marks free₀.
-pub record Going (fan count ends : List ℕ) (u₀ : ℕ) (s : List ℕ) (at₀ width size₀ : ℕ) (free₀ : List ℕ) (u at size : ℕ) (free : List ℕ) : Type 0 where
+and-second : (a b : Bool) → (a && b) ≡ true → b ≡ true
+and-second true b e = e
+and-second false b e = absurd (false≢true e)
+
+-- The state of a path that has come to node u by the ids before place `at`; it started at u₀ with roles₀.
+pub record Going (fanins : List ℕ) (u₀ : ℕ) (s : List ℕ) (at₀ width size₀ : ℕ) (roles₀ : List ℕ) (u at size : ℕ) (roles : List ℕ) : Type 0 where
   pub nodes : ℕ
-  pub room : PathRoom nodes fan count free ends
+  pub room : PathRoom nodes fanins roles
   pub stand : IdsStand nodes s at width size
   pub node : u < nodes
-  pub answer : goesOn fan count ends free u (idsAt s at width size) ≡ goesOn fan count ends free₀ u₀ (idsAt s at₀ width size₀)
-  pub taken : afterPath free (idsAt s at width size) ≡ afterPath free₀ (idsAt s at₀ width size₀)
-  pub beyond : (n : ℕ) → Below n (idsAt s at₀ width size₀) → drop n free ≡ drop n free₀
+  pub answer : goesOn fanins (endsIn roles₀) (areaIn roles) u (idsAt s at width size)
+      ≡ goesOn fanins (endsIn roles₀) (areaIn roles₀) u₀ (idsAt s at₀ width size₀)
+  pub taken : afterPath (areaIn roles) (idsAt s at width size) ≡ afterPath (areaIn roles₀) (idsAt s at₀ width size₀)
+  pub ends-still : endsIn roles ≡ endsIn roles₀
+  pub beyond : (n : ℕ) → Below n (idsAt s at₀ width size₀) → Beyond n roles₀ roles
   pub later : (v : ℕ) → List·Memᴰ v (idsAt s at width size) → List·Memᴰ v (idsAt s at₀ width size₀)
-  pub long : length free ≡ length free₀
+  pub long : length roles ≡ length roles₀
 
-module _ {fan count ends : List ℕ} {u₀ : ℕ} {s : List ℕ} {at₀ width size₀ : ℕ} {free₀ : List ℕ} where
-  pub going-starts : GoesAsked fan count u₀ s at₀ width size₀ free₀ ends → Going fan count ends u₀ s at₀ width size₀ free₀ u₀ at₀ size₀ free₀
+module _ {fanins : List ℕ} {u₀ : ℕ} {s : List ℕ} {at₀ width size₀ : ℕ} {roles₀ : List ℕ} where
+  pub going-starts : GoesAsked fanins u₀ s at₀ width size₀ roles₀ → Going fanins u₀ s at₀ width size₀ roles₀ u₀ at₀ size₀ roles₀
   going-starts asked =
       record {
         nodes = asked .nodes;
@@ -87,116 +95,148 @@ module _ {fan count ends : List ℕ} {u₀ : ℕ} {s : List ℕ} {at₀ width si
         node = asked .node;
         answer = refl;
         taken = refl;
-        beyond = λ n _. refl;
+        ends-still = refl;
+        beyond = λ n _. beyond-same n roles₀;
         later = λ v m. m;
         long = refl;
       }
 
-  module _ {u at size : ℕ} {free : List ℕ} (going : Going fan count ends u₀ s at₀ width size₀ free₀ u at size free) where
+  module _ {u at size : ℕ} {roles : List ℕ} (going : Going fanins u₀ s at₀ width size₀ roles₀ u at size roles) where
     module _ (some : 1 ≤ size) {v : ℕ} (read : v ≡ numberAt s at width) where
       pub next-node : v < going .nodes
       next-node = rw read (id-node (going .stand) some)
 
-      pub follows-here : (v < length count) × ((6 * v + getD count v 0 ≤ length fan) × (v < length free))
+      pub follows-here : (7 * v + 7 ≤ length fanins) × ((sizeAt fanins v ≤ 6) × (v < length roles))
       follows-here = follows-asks (going .room) v next-node
+
+      -- where the path can go on, the next node is free
+      pub next-free : (isMember u (listAt fanins v) && isMarked (areaIn roles) v) ≡ true → isMarked (areaIn roles) v ≡ true
+      next-free follows = and-second (isMember u (listAt fanins v)) (isMarked (areaIn roles) v) follows
 
       ids-here : idsAt s at width size ≡ v ∷ idsAt s (at + width) width (size - 1)
       ids-here = rw read (ids-cons s at width size some)
 
-      goes-here : goesOn fan count ends free u (idsAt s at width size)
-          ≡ ((isMember u (faninsAt fan count v) && isMarked free v) && goesOn fan count ends (set free v 0) v (idsAt s (at + width) width (size - 1)))
+      -- the answer of the ids that are left
+      abbrev onward : Bool
+      onward = goesOn fanins (endsIn roles₀) (set (areaIn roles) v 0) v (idsAt s (at + width) width (size - 1))
+
+      goes-here : goesOn fanins (endsIn roles₀) (areaIn roles) u (idsAt s at width size)
+          ≡ ((isMember u (listAt fanins v) && isMarked (areaIn roles) v) && onward)
       unfolding goesOn
       goes-here = rw ids-here
 
-      taken-here : afterPath free (idsAt s at width size) ≡ afterPath (set free v 0) (idsAt s (at + width) width (size - 1))
+      taken-here : afterPath (areaIn roles) (idsAt s at width size) ≡ afterPath (set (areaIn roles) v 0) (idsAt s (at + width) width (size - 1))
       unfolding afterPath
       taken-here = rw ids-here
 
-      pub going-more : (isMember u (faninsAt fan count v) && isMarked free v) ≡ true →
-          Going fan count ends u₀ s at₀ width size₀ free₀ v (at + width) (size - 1) (set free v 0)
-      going-more follows =
+      pub going-more : {roles′ : List ℕ} → Taken roles v roles′ → (isMember u (listAt fanins v) && isMarked (areaIn roles) v) ≡ true →
+          Going fanins u₀ s at₀ width size₀ roles₀ v (at + width) (size - 1) roles′
+      going-more {roles′} take follows =
           record {
             nodes = going .nodes;
-            room = room-after (going .room) v;
+            room = room-after (going .room) (taken-size take);
             stand = ids-later (going .stand) some;
             node = next-node;
-            answer = ap (λ (b : Bool). b && goesOn fan count ends (set free v 0) v (idsAt s (at + width) width (size - 1))) (sym follows) ∙ sym goes-here ∙ going .answer;
-            taken = sym taken-here ∙ going .taken;
+            answer =
+                ap (λ (free : List ℕ). goesOn fanins (endsIn roles₀) free v (idsAt s (at + width) width (size - 1))) (taken-area take)
+                ∙ ap (λ (b : Bool). b && onward) (sym follows)
+                ∙ sym goes-here
+                ∙ going .answer;
+            taken =
+                ap (λ (free : List ℕ). afterPath free (idsAt s (at + width) width (size - 1))) (taken-area take)
+                ∙ sym taken-here
+                ∙ going .taken;
+            ends-still = taken-ends take ∙ going .ends-still;
             beyond = λ n below.
-                drop-set-lt n free v 0 (below v (going .later v (rw ids-here (List·Memᴰ·head refl)))) ∙ going .beyond n below;
+                beyond-then (going .beyond n below) (taken-beyond take n (below v (going .later v (rw ids-here (List·Memᴰ·head refl)))));
             later = λ w m. going .later w (rw ids-here (List·Memᴰ·tail m));
-            long = simp length-set (going .long);
+            long = taken-size take ∙ going .long;
           }
 
-      pub going-stops : (isMember u (faninsAt fan count v) && isMarked free v) ≡ false →
-          PathTold (goesOn fan count ends free₀ u₀ (idsAt s at₀ width size₀)) (idsAt s at₀ width size₀) free₀ false free
+      pub going-stops : (isMember u (listAt fanins v) && isMarked (areaIn roles) v) ≡ false →
+          PathTold (goesOn fanins (endsIn roles₀) (areaIn roles₀) u₀ (idsAt s at₀ width size₀)) (idsAt s at₀ width size₀) roles₀ false roles
       going-stops stops =
           record {
-            reply = ap (λ (b : Bool). b && goesOn fan count ends (set free v 0) v (idsAt s (at + width) width (size - 1))) (sym stops) ∙ sym goes-here ∙ going .answer;
+            reply = ap (λ (b : Bool). b && onward) (sym stops) ∙ sym goes-here ∙ going .answer;
             taken = λ e. absurd (false≢true e);
+            ends-still = going .ends-still;
             beyond = going .beyond;
           }
 
-    pub going-ends : size ≡ 0 → {r : Bool} → r ≡ isMarked ends u →
-        PathTold (goesOn fan count ends free₀ u₀ (idsAt s at₀ width size₀)) (idsAt s at₀ width size₀) free₀ r free
+    pub going-ends : size ≡ 0 → {r : Bool} → r ≡ isMarked (endsIn roles) u →
+        PathTold (goesOn fanins (endsIn roles₀) (areaIn roles₀) u₀ (idsAt s at₀ width size₀)) (idsAt s at₀ width size₀) roles₀ r roles
     unfolding goesOn afterPath idsAt
     going-ends none {r} e =
         let ids-none : idsAt s at width size ≡ [] = rw none in
         record {
-          reply = e ∙ ap (goesOn fan count ends free u) (sym ids-none) ∙ going .answer;
-          taken = λ _. ap (afterPath free) (sym ids-none) ∙ going .taken;
+          reply = e
+              ∙ ap (λ (ends : List ℕ). isMarked ends u) (going .ends-still)
+              ∙ ap (goesOn fanins (endsIn roles₀) (areaIn roles) u) (sym ids-none)
+              ∙ going .answer;
+          taken = λ _. ap (afterPath (areaIn roles)) (sym ids-none) ∙ going .taken;
+          ends-still = going .ends-still;
           beyond = going .beyond;
         }
 
 -- A path starts
 
-module _ {fan count s : List ℕ} {at width size : ℕ} {free ends : List ℕ} (inputs : ℕ) (asked : PathAsked fan count s at width size free ends) {v : ℕ}
+module _ {fanins s : List ℕ} {at width size : ℕ} {roles : List ℕ} (inputs : ℕ) (asked : PathAsked fanins s at width size roles) {v : ℕ}
     (read : v ≡ numberAt s at width) where
   first-node : v < asked .nodes
   first-node = rw read (id-node (asked .stand) (asked .some))
 
-  pub first-inside : v < length free
-  first-inside = let low = first-node in omega (arith, asked .room .free-long)
+  pub first-inside : v < length roles
+  first-inside = let low = first-node in omega (arith, asked .room .roles-long)
 
   first-here : idsAt s at width size ≡ v ∷ idsAt s (at + width) width (size - 1)
   first-here = rw read (ids-cons s at width size (asked .some))
 
-  path-here : isPath fan count ends inputs free (idsAt s at width size)
-      ≡ ((ltb v inputs && isMarked free v) && goesOn fan count ends (set free v 0) v (idsAt s (at + width) width (size - 1)))
+  abbrev onward-first : Bool
+  onward-first = goesOn fanins (endsIn roles) (set (areaIn roles) v 0) v (idsAt s (at + width) width (size - 1))
+
+  path-here : isPath fanins (endsIn roles) inputs (areaIn roles) (idsAt s at width size)
+      ≡ ((ltb v inputs && isMarked (areaIn roles) v) && onward-first)
   unfolding isPath
   path-here = rw first-here
 
-  pub path-refused : (ltb v inputs && isMarked free v) ≡ false →
-      PathTold (isPath fan count ends inputs free (idsAt s at width size)) (idsAt s at width size) free false free
+  pub path-refused : (ltb v inputs && isMarked (areaIn roles) v) ≡ false →
+      PathTold (isPath fanins (endsIn roles) inputs (areaIn roles) (idsAt s at width size)) (idsAt s at width size) roles false roles
   path-refused bad =
       record {
-        reply = ap (λ (b : Bool). b && goesOn fan count ends (set free v 0) v (idsAt s (at + width) width (size - 1))) (sym bad) ∙ sym path-here;
+        reply = ap (λ (b : Bool). b && onward-first) (sym bad) ∙ sym path-here;
         taken = λ e. absurd (false≢true e);
-        beyond = λ n _. refl;
+        ends-still = refl;
+        beyond = λ n _. beyond-same n roles;
       }
 
-  pub path-goes : GoesAsked fan count v s (at + width) width (size - 1) (set free v 0) ends
-  path-goes =
-      record {
-        nodes = asked .nodes;
-        room = room-after (asked .room) v;
-        stand = ids-later (asked .stand) (asked .some);
-        node = first-node;
-      }
+  module _ {roles₁ : List ℕ} (take : Taken roles v roles₁) where
+    pub path-goes : GoesAsked fanins v s (at + width) width (size - 1) roles₁
+    path-goes =
+        record {
+          nodes = asked .nodes;
+          room = room-after (asked .room) (taken-size take);
+          stand = ids-later (asked .stand) (asked .some);
+          node = first-node;
+        }
 
-  pub path-told : (ltb v inputs && isMarked free v) ≡ true → {r : Bool} {free′ : List ℕ} →
-      PathTold (goesOn fan count ends (set free v 0) v (idsAt s (at + width) width (size - 1))) (idsAt s (at + width) width (size - 1)) (set free v 0) r free′ →
-      PathTold (isPath fan count ends inputs free (idsAt s at width size)) (idsAt s at width size) free r free′
-  unfolding afterPath
-  path-told good told =
-      record {
-        reply = told .reply
-            ∙ ap (λ (b : Bool). b && goesOn fan count ends (set free v 0) v (idsAt s (at + width) width (size - 1))) (sym good) ∙ sym path-here;
-        taken = λ e. told .taken e ∙ ap (afterPath free) (sym first-here);
-        beyond = λ n below.
-            told .beyond n (λ w m. below w (rw first-here (List·Memᴰ·tail m)))
-            ∙ drop-set-lt n free v 0 (below v (rw first-here (List·Memᴰ·head refl)));
-      }
+    pub path-told : (ltb v inputs && isMarked (areaIn roles) v) ≡ true → {r : Bool} {roles′ : List ℕ} →
+        PathTold (goesOn fanins (endsIn roles₁) (areaIn roles₁) v (idsAt s (at + width) width (size - 1))) (idsAt s (at + width) width (size - 1)) roles₁ r roles′ →
+        PathTold (isPath fanins (endsIn roles) inputs (areaIn roles) (idsAt s at width size)) (idsAt s at width size) roles r roles′
+    unfolding afterPath
+    path-told good told =
+        let later = idsAt s (at + width) width (size - 1) in
+        record {
+          reply = told .reply
+              ∙ ap (λ (ends : List ℕ). goesOn fanins ends (areaIn roles₁) v later) (taken-ends take)
+              ∙ ap (λ (free : List ℕ). goesOn fanins (endsIn roles) free v later) (taken-area take)
+              ∙ ap (λ (b : Bool). b && onward-first) (sym good)
+              ∙ sym path-here;
+          taken = λ e. told .taken e ∙ ap (λ (free : List ℕ). afterPath free later) (taken-area take) ∙ ap (afterPath (areaIn roles)) (sym first-here);
+          ends-still = told .ends-still ∙ taken-ends take;
+          beyond = λ n below.
+              beyond-then (taken-beyond take n (below v (rw first-here (List·Memᴰ·head refl))))
+              (told .beyond n (λ w m. below w (rw first-here (List·Memᴰ·tail m))));
+        }
 
 -- Paths, one after the other
 
@@ -279,32 +319,35 @@ module _ {nodes : ℕ} {s : List ℕ} {at width q : ℕ} (stand : PathsStand nod
         below = λ v m. stand .below v (in-later v m);
       }
 
--- The state of the check before the path at place `at`; it started at place at₀ with marks free₀.
-pub record Passing (fan count ends : List ℕ) (inputs : ℕ) (s : List ℕ) (at₀ width q₀ : ℕ) (free₀ : List ℕ) (at q : ℕ) (free : List ℕ) : Type 0 where
+-- The state of the check before the path at place `at`; it started at place at₀ with roles₀.
+pub record Passing (fanins : List ℕ) (inputs : ℕ) (s : List ℕ) (at₀ width q₀ : ℕ) (roles₀ : List ℕ) (at q : ℕ) (roles : List ℕ) : Type 0 where
   pub nodes : ℕ
-  pub room : PathRoom nodes fan count free ends
+  pub room : PathRoom nodes fanins roles
   pub stand : PathsStand nodes s at width q
-  pub answer : arePaths fan count ends inputs free (pathsAt s at width q) ≡ arePaths fan count ends inputs free₀ (pathsAt s at₀ width q₀)
-  pub beyond : (n : ℕ) → Below n (joined (pathsAt s at₀ width q₀)) → drop n free ≡ drop n free₀
+  pub answer : arePaths fanins (endsIn roles₀) inputs (areaIn roles) (pathsAt s at width q)
+      ≡ arePaths fanins (endsIn roles₀) inputs (areaIn roles₀) (pathsAt s at₀ width q₀)
+  pub ends-still : endsIn roles ≡ endsIn roles₀
+  pub beyond : (n : ℕ) → Below n (joined (pathsAt s at₀ width q₀)) → Beyond n roles₀ roles
   pub later : (v : ℕ) → List·Memᴰ v (joined (pathsAt s at width q)) → List·Memᴰ v (joined (pathsAt s at₀ width q₀))
-  pub long : length free ≡ length free₀
+  pub long : length roles ≡ length roles₀
 
-module _ {fan count ends : List ℕ} {inputs : ℕ} {s : List ℕ} {at₀ width q₀ : ℕ} {free₀ : List ℕ} where
-  pub passing-starts : PathsAsked fan count s at₀ width q₀ free₀ ends → Passing fan count ends inputs s at₀ width q₀ free₀ at₀ q₀ free₀
+module _ {fanins : List ℕ} {inputs : ℕ} {s : List ℕ} {at₀ width q₀ : ℕ} {roles₀ : List ℕ} where
+  pub passing-starts : PathsAsked fanins s at₀ width q₀ roles₀ → Passing fanins inputs s at₀ width q₀ roles₀ at₀ q₀ roles₀
   passing-starts asked =
       record {
         nodes = asked .nodes;
         room = asked .room;
         stand = asked .stand;
         answer = refl;
-        beyond = λ n _. refl;
+        ends-still = refl;
+        beyond = λ n _. beyond-same n roles₀;
         later = λ v m. m;
         long = refl;
       }
 
-  module _ {at q : ℕ} {free : List ℕ} (passing : Passing fan count ends inputs s at₀ width q₀ free₀ at q free) where
+  module _ {at q : ℕ} {roles : List ℕ} (passing : Passing fanins inputs s at₀ width q₀ roles₀ at q roles) where
     module _ (some : 1 ≤ q) {size : ℕ} (read : size ≡ numberAt s at width) where
-      pub path-asked : PathAsked fan count s (at + width) width size free ends
+      pub path-asked : PathAsked fanins s (at + width) width size roles
       path-asked =
           record {
             nodes = passing .nodes;
@@ -320,55 +363,64 @@ module _ {fan count ends : List ℕ} {inputs : ℕ} {s : List ℕ} {at₀ width 
       pub next-inside : at + width + size * width ≤ length s
       next-inside = rw read (path-fits (passing .stand) some)
 
-      here : pathsAt s at width q ≡ idsAt s (at + width) width size ∷ pathsAt s (at + width + size * width) width (q - 1)
+      -- the first path, and the others
+      abbrev first-ids : List ℕ
+      first-ids = idsAt s (at + width) width size
+
+      abbrev others : List (List ℕ)
+      others = pathsAt s (at + width + size * width) width (q - 1)
+
+      here : pathsAt s at width q ≡ first-ids ∷ others
       here = rw read (paths-cons (passing .stand) some)
 
-      passes-here : arePaths fan count ends inputs free (pathsAt s at width q)
-          ≡ (isPath fan count ends inputs free (idsAt s (at + width) width size)
-          && arePaths fan count ends inputs (afterPath free (idsAt s (at + width) width size)) (pathsAt s (at + width + size * width) width (q - 1)))
+      passes-here : arePaths fanins (endsIn roles₀) inputs (areaIn roles) (pathsAt s at width q)
+          ≡ (isPath fanins (endsIn roles₀) inputs (areaIn roles) first-ids && arePaths fanins (endsIn roles₀) inputs (afterPath (areaIn roles) first-ids) others)
       unfolding arePaths
       passes-here = rw here
 
-      module _ {r : Bool} {free′ : List ℕ} (size-kept : length free′ ≡ length free)
-          (told : PathTold (isPath fan count ends inputs free (idsAt s (at + width) width size)) (idsAt s (at + width) width size) free r free′) where
-        still-beyond : (n : ℕ) → Below n (joined (pathsAt s at₀ width q₀)) → drop n free′ ≡ drop n free₀
+      module _ {r : Bool} {roles′ : List ℕ} (size-kept : length roles′ ≡ length roles)
+          (told : PathTold (isPath fanins (endsIn roles) inputs (areaIn roles) first-ids) first-ids roles r roles′) where
+        told-here : r ≡ isPath fanins (endsIn roles₀) inputs (areaIn roles) first-ids
+        told-here = told .reply ∙ ap (λ (ends : List ℕ). isPath fanins ends inputs (areaIn roles) first-ids) (passing .ends-still)
+
+        -- the answer, if this path passes
+        answer-by : {b : Bool} → r ≡ b →
+            (b && arePaths fanins (endsIn roles₀) inputs (afterPath (areaIn roles) first-ids) others)
+            ≡ arePaths fanins (endsIn roles₀) inputs (areaIn roles₀) (pathsAt s at₀ width q₀)
+        answer-by e =
+            ap (λ (b : Bool). b && arePaths fanins (endsIn roles₀) inputs (afterPath (areaIn roles) first-ids) others) (sym e ∙ told-here)
+            ∙ sym passes-here
+            ∙ passing .answer
+
+        still-beyond : (n : ℕ) → Below n (joined (pathsAt s at₀ width q₀)) → Beyond n roles₀ roles′
         still-beyond n below =
-            told .beyond n (λ v m. below v (passing .later v (in-first (passing .stand) some v (rw read at m)))) ∙ passing .beyond n below
+            beyond-then (passing .beyond n below)
+            (told .beyond n (λ v m. below v (passing .later v (in-first (passing .stand) some v (rw read at m)))))
 
         pub passing-stops : r ≡ false →
-            PathsTold (arePaths fan count ends inputs free₀ (pathsAt s at₀ width q₀)) (joined (pathsAt s at₀ width q₀)) free₀ false free′
-        passing-stops stops =
-            record {
-              reply = ap (λ (b : Bool). b && arePaths fan count ends inputs (afterPath free (idsAt s (at + width) width size)) (pathsAt s (at + width + size * width) width (q - 1)))
-                  (sym stops ∙ told .reply) ∙ sym passes-here ∙ passing .answer;
-              beyond = still-beyond;
-            }
+            PathsTold (arePaths fanins (endsIn roles₀) inputs (areaIn roles₀) (pathsAt s at₀ width q₀)) (joined (pathsAt s at₀ width q₀)) roles₀ false roles′
+        passing-stops stops = record { reply = answer-by stops; beyond = still-beyond }
 
-        pub passing-more : r ≡ true → Passing fan count ends inputs s at₀ width q₀ free₀ (at + width + size * width) (q - 1) free′
+        pub passing-more : r ≡ true → Passing fanins inputs s at₀ width q₀ roles₀ (at + width + size * width) (q - 1) roles′
         passing-more passes =
             let rest = paths-later (passing .stand) some in
             record {
               nodes = passing .nodes;
-              room = record {
-                ids = passing .room .ids;
-                fed = passing .room .fed;
-                free-long = omega (arith, passing .room .free-long);
-                ends-long = passing .room .ends-long;
-              };
+              room = room-after (passing .room) size-kept;
               stand = rw read rest;
-              answer = ap (λ (l : List ℕ). arePaths fan count ends inputs l (pathsAt s (at + width + size * width) width (q - 1))) (told .taken passes)
-                  ∙ ap (λ (b : Bool). b && arePaths fan count ends inputs (afterPath free (idsAt s (at + width) width size)) (pathsAt s (at + width + size * width) width (q - 1)))
-                  (sym passes ∙ told .reply) ∙ sym passes-here ∙ passing .answer;
+              answer = ap (λ (free : List ℕ). arePaths fanins (endsIn roles₀) inputs free others) (told .taken passes) ∙ answer-by passes;
+              ends-still = told .ends-still ∙ passing .ends-still;
               beyond = still-beyond;
               later = λ v m. passing .later v (in-later (passing .stand) some v (rw read at m));
-              long = omega (arith, passing .long);
+              long = size-kept ∙ passing .long;
             }
 
-    pub passing-ends : q ≡ 0 → PathsTold (arePaths fan count ends inputs free₀ (pathsAt s at₀ width q₀)) (joined (pathsAt s at₀ width q₀)) free₀ true free
+    pub passing-ends : q ≡ 0 →
+        PathsTold (arePaths fanins (endsIn roles₀) inputs (areaIn roles₀) (pathsAt s at₀ width q₀)) (joined (pathsAt s at₀ width q₀)) roles₀ true roles
     unfolding arePaths pathsAt
     passing-ends none =
         let paths-none : pathsAt s at width q ≡ [] = rw none in
         record {
-          reply = ap (arePaths fan count ends inputs free) (sym paths-none) ∙ passing .answer;
+          reply = ap (arePaths fanins (endsIn roles₀) inputs (areaIn roles)) (sym paths-none) ∙ passing .answer;
           beyond = passing .beyond;
         }

@@ -6,21 +6,22 @@ use native.Mathlib.Omega.{arith}
 use mathlib.Core.Path.{_≡_, refl, sym, ap, subst, _∙_}
 use mathlib.Core.Logic.{_⊎_, inl, ⊎-elim}
 use mathlib.Core.Bool.{false≢true}
-use mathlib.Core.List.{List, [], _∷_, _++_, List·Memᴰ, List·Memᴰ·head, List·Memᴰ·tail, List·Memᴰ·not-nil, List·Memᴰ·cases-cons, List·Memᴰ·append-cases, List·Memᴰ·eq-of-singleton, Memᴰ·append-left, Memᴰ·append-right}
+use mathlib.Core.List.{List, [], _∷_, _++_, List·Memᴰ, List·Memᴰ·head, List·Memᴰ·tail, List·Memᴰ·not-nil, List·Memᴰ·cases-cons}
+use mathlib.Core.List.{List·Memᴰ·append-cases, List·Memᴰ·eq-of-singleton, Memᴰ·append-left, Memᴰ·append-right}
 use lib.ListN.{length, getD, set, length-set}
 use lib.Seq.{getD-set-same, getD-set-other}
+use Rattle.storage.specs.Drawings.{netIn}
+use Rattle.storage.specs.Marks.{Marks}
+use Rattle.storage.specs.Lists.{listAt}
 use Rattle.theory.specs.Net.{Net, Input}
 use Rattle.theory.specs.Lists.{NoRepeats}
 use Rattle.theory.specs.Evidence.{Run, TruePath, joined}
 use Rattle.theory.proofs.Tests.{Decides, decides-as, _and-then_, decides-lt, decides-equal, decides-member}
 use Rattle.theory.proofs.Members.{no-repeats-after, no-repeats-apart, no-repeats-join, no-repeats-first}
-use Rattle.drawing.specs.Table.{netIn}
-use Rattle.walking.specs.Arrays.{Marks}
 use Rattle.theory.specs.Lists.{isMember}
-use Rattle.walking.specs.Listing.{faninsAt}
 use Rattle.area.specs.Area.{InArea, IsEnd}
-use Rattle.area.proofs.Marking.{marks-same}
-use Rattle.area.proofs.Parts.{fanins-in}
+use Rattle.storage.proofs.Drawings.{fanins-in}
+use Rattle.storage.proofs.InMarks.{marks-same}
 use Rattle.sheet.specs.Shape.{Below}
 use Rattle.sheet.proofs.Longest.{on-a-path}
 use Rattle.judging.specs.Paths.{isMarked, afterPath, goesOn, isPath, arePaths}
@@ -104,18 +105,18 @@ decides-marked {l = l} marks v low = decides-as (marks .holds v low) (marks .mar
 
 -- Paths
 
-module _ (inputs nodes : ℕ) (fan count : List ℕ) (lab : ℕ → ℕ) (t : ℕ) {ends : List ℕ}
-    (ending : Marks nodes (IsEnd (netIn inputs nodes fan count) lab t) ends) where
+module _ (inputs nodes : ℕ) (fanins : List ℕ) (lab : ℕ → ℕ) (t : ℕ) {ends : List ℕ}
+    (ending : Marks nodes (IsEnd (netIn inputs nodes fanins) lab t) ends) where
   abbrev net : Net
-  net = netIn inputs nodes fan count
+  net = netIn inputs nodes fanins
 
-  decides-feeds : (u v : ℕ) → v < nodes → Decides (isMember u (faninsAt fan count v)) (List·Memᴰ u (net .fanins v))
+  decides-feeds : (u v : ℕ) → v < nodes → Decides (isMember u (listAt fanins v)) (List·Memᴰ u (net .fanins v))
   decides-feeds u v low =
-      rw (fanins-in inputs nodes fan count v low) (decides-member u (faninsAt fan count v))
+      rw (fanins-in inputs nodes fanins v low) (decides-member u (listAt fanins v))
 
   decides-goes : (P : ℕ → Type 0) → ((v : ℕ) → P v → InArea net lab t v) → {free : List ℕ} → nodes ≤ length free → Marks nodes P free →
       (u : ℕ) → u < nodes → InArea net lab t u → (vs : List ℕ) → Below nodes vs →
-      Decides (goesOn fan count ends free u vs) (Run net lab t (u ∷ vs) × Held P vs)
+      Decides (goesOn fanins ends free u vs) (Run net lab t (u ∷ vs) × Held P vs)
   unfolding goesOn
   decides-goes P inside long marks u low here [] below =
       decides-as (λ e. (Run.last (e .deep) (e .feeds), held-none P)) (λ both. ended (both .0)) (decides-marked ending u low)
@@ -128,7 +129,9 @@ module _ (inputs nodes : ℕ) (fan count : List ℕ) (lab : ℕ → ℕ) (t : �
       (λ k. (Run.more (k .0 .0) (k .1 .0), held-join (held-one (k .0 .1)) (k .1 .1)))
       (λ both. split (both .0) (both .1))
       (decides-feeds u v less and-then (λ _. decides-marked marks v less)
-      and-then (λ k. decides-goes (Left P (v ∷ [])) (λ w p. inside w (p .0)) (simp length-set long) (marks-taken v long less marks) v less (inside v (k .1)) vs (λ w m. below w (List·Memᴰ·tail m))))
+      and-then (λ k.
+      decides-goes (Left P (v ∷ [])) (λ w p. inside w (p .0)) (simp length-set long) (marks-taken v long less marks) v less (inside v (k .1)) vs
+      (λ w m. below w (List·Memᴰ·tail m))))
     where
       split : Run net lab t (u ∷ v ∷ vs) → Held P (v ∷ vs) →
           (List·Memᴰ u (net .fanins v) × P v) × (Run net lab t (v ∷ vs) × Held (Left P (v ∷ [])) vs)
@@ -149,7 +152,7 @@ module _ (inputs nodes : ℕ) (fan count : List ℕ) (lab : ℕ → ℕ) (t : �
       }
 
   decides-path : (P : ℕ → Type 0) → ((v : ℕ) → P v → InArea net lab t v) → {free : List ℕ} → nodes ≤ length free → Marks nodes P free →
-      (path : List ℕ) → Below nodes path → Decides (isPath fan count ends inputs free path) (TruePath net lab t path × Held P path)
+      (path : List ℕ) → Below nodes path → Decides (isPath fanins ends inputs free path) (TruePath net lab t path × Held P path)
   unfolding isPath netIn
   decides-path P inside long marks [] below = record { holds = λ e. absurd (false≢true e); passes = λ p. cc (p .0 .whole) }
   decides-path P inside long marks (v ∷ vs) below =
@@ -161,14 +164,16 @@ module _ (inputs nodes : ℕ) (fan count : List ℕ) (lab : ℕ → ℕ) (t : �
       let e : v ≡ p .first = cc (p .whole) in
       ((rw e (p .starts), held .free v (List·Memᴰ·head refl)), (p .runs, held-later (v ∷ []) vs held)))
       (decides-lt v inputs and-then (λ _. decides-marked marks v less)
-      and-then (λ k. decides-goes (Left P (v ∷ [])) (λ w p. inside w (p .0)) (simp length-set long) (marks-taken v long less marks) v less (inside v (k .1)) vs (λ w m. below w (List·Memᴰ·tail m))))
+      and-then (λ k.
+      decides-goes (Left P (v ∷ [])) (λ w p. inside w (p .0)) (simp length-set long) (marks-taken v long less marks) v less (inside v (k .1)) vs
+      (λ w m. below w (List·Memᴰ·tail m))))
 
   -- each is a true path
   abbrev Each : List (List ℕ) → Type 0
   Each paths = (path : List ℕ) → List·Memᴰ path paths → TruePath net lab t path
 
   decides-paths : (P : ℕ → Type 0) → ((v : ℕ) → P v → InArea net lab t v) → {free : List ℕ} → nodes ≤ length free → Marks nodes P free →
-      (paths : List (List ℕ)) → Below nodes (joined paths) → Decides (arePaths fan count ends inputs free paths) (Each paths × Held P (joined paths))
+      (paths : List (List ℕ)) → Below nodes (joined paths) → Decides (arePaths fanins ends inputs free paths) (Each paths × Held P (joined paths))
   unfolding arePaths joined
   decides-paths P inside long marks [] below =
       record { holds = λ e. (λ path m. absurd (List·Memᴰ·not-nil m), held-none P); passes = λ both. refl }
@@ -177,11 +182,13 @@ module _ (inputs nodes : ℕ) (fan count : List ℕ) (lab : ℕ → ℕ) (t : �
       (λ k. (λ other m. ⊎-elim (λ (e : other ≡ path). subst (TruePath net lab t) (sym e) (k .0 .0)) (k .1 .0 other) (List·Memᴰ·cases-cons m), held-join (k .0 .1) (k .1 .1)))
       (λ both. ((both .0 path (List·Memᴰ·head refl), held-first path (joined paths) (both .1)), (λ other m. both .0 other (List·Memᴰ·tail m), held-later path (joined paths) (both .1))))
       (decides-path P inside long marks path (λ v m. below v (Memᴰ·append-left (joined paths) m))
-      and-then (λ _. decides-paths (Left P path) (λ w p. inside w (p .0)) (rw (long-after path free) long) (marks-after path long (λ v m. below v (Memᴰ·append-left (joined paths) m)) marks) paths (λ v m. below v (Memᴰ·append-right path m))))
+      and-then (λ _.
+      decides-paths (Left P path) (λ w p. inside w (p .0)) (rw (long-after path free) long)
+      (marks-after path long (λ v m. below v (Memᴰ·append-left (joined paths) m)) marks) paths (λ v m. below v (Memᴰ·append-right path m))))
 
   -- With marks at the nodes "behind t and outside D", the tests pass exactly for true paths with no node on two or twice on one.
   pub decides-evidence : {area : List ℕ} → nodes ≤ length area → Marks nodes (InArea net lab t) area → (paths : List (List ℕ)) →
-      Below nodes (joined paths) → Decides (arePaths fan count ends inputs area paths) (Each paths × NoRepeats (joined paths))
+      Below nodes (joined paths) → Decides (arePaths fanins ends inputs area paths) (Each paths × NoRepeats (joined paths))
   decides-evidence long marks paths below =
       decides-as (λ k. (k .0, k .1 .apart)) back (decides-paths (InArea net lab t) (λ v p. p) long marks paths below)
     where

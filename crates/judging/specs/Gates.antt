@@ -1,20 +1,20 @@
 -- Rules 25, 26 and 27 at the gates: what each test asks and tells, and pass two.
-use Prim.Native.Nat.{ℕ, suc, _+_, _*_, _-_, _≤_, _<_}
+use Prim.Native.Nat.{ℕ, suc, _+_, _*_, _≤_, _<_}
 use mathlib.Core.Path.{_≡_}
 use mathlib.Core.Bool.{Bool, true, false}
 use mathlib.Core.Logic.{_⊎_}
 use mathlib.Core.List.{List, map, flatMap, List·Memᴰ}
-use lib.ListN.{length, getD, take, drop}
+use lib.ListN.{length, drop}
 use Rattle.theory.specs.Net.{Net, Gate}
 use Rattle.theory.specs.Lists.{NoRepeats, greatest}
 use Rattle.theory.specs.Evidence.{peak, TruePath, joined}
-use Rattle.drawing.specs.Table.{netIn}
+use Rattle.storage.specs.Entries.{cleared, Beyond}
+use Rattle.storage.specs.Marks.{Tells}
+use Rattle.storage.specs.Lists.{sizeAt, listAt}
+use Rattle.storage.specs.Drawings.{netIn, Arranged}
 use Rattle.drawing.specs.Bytes.{numberAt}
-use Rattle.walking.specs.Arrays.{Drawn, Ordered}
-use Rattle.walking.specs.Listing.{Tells, faninsAt}
 use Rattle.walking.specs.Promises.{WalkRoom}
 use Rattle.area.specs.Area.{labelIn}
-use Rattle.covering.specs.Scratch.{Cleared}
 use Rattle.sheet.specs.declared.Form.{Form}
 use Rattle.sheet.specs.declared.Ruling.the-variants.{Sound}
 use Rattle.sheet.specs.Sheet.{Line, Sheet}
@@ -32,49 +32,20 @@ pathsPlace form s at = linePaths (dueFrom form 0 0 0 0) s at
 abbrev pub linePathsIn : Form → List ℕ → ℕ → List (List ℕ)
 linePathsIn form s at = pathsAt s (pathsPlace form s at + 1) (form .width) (numberAt s (pathsPlace form s at) 1)
 
--- Marks that the caller lends, four a node.
-pub record Scratch : Type 0 where
-  pub walked : List ℕ
-  pub met : List ℕ
-  pub area : List ℕ
-  pub ends : List ℕ
-
-abbrev pub scratchOf : (walked met area ends : List ℕ) → Scratch
-scratchOf walked met area ends = record { walked = walked; met = met; area = area; ends = ends }
-
-pub record ScratchLong (nodes : ℕ) (s : Scratch) : Type 0 where
-  pub walked-long : nodes ≤ length (s .walked)
-  pub met-long : nodes ≤ length (s .met)
-  pub area-long : nodes ≤ length (s .area)
-  pub ends-long : nodes ≤ length (s .ends)
-
--- the entries beyond the nodes are as before
-pub record BeyondKept (nodes : ℕ) (s s′ : Scratch) : Type 0 where
-  pub walked-beyond : drop nodes (s′ .walked) ≡ drop nodes (s .walked)
-  pub met-beyond : drop nodes (s′ .met) ≡ drop nodes (s .met)
-  pub area-beyond : drop nodes (s′ .area) ≡ drop nodes (s .area)
-  pub ends-beyond : drop nodes (s′ .ends) ≡ drop nodes (s .ends)
-
-pub record ScratchCleared (nodes : ℕ) (s s′ : Scratch) : Type 0 where
-  pub walked-cleared : Cleared nodes (s .walked) (s′ .walked)
-  pub met-cleared : Cleared nodes (s .met) (s′ .met)
-  pub area-cleared : Cleared nodes (s .area) (s′ .area)
-  pub ends-cleared : Cleared nodes (s .ends) (s′ .ends)
-
 -- 25
 
-pub record CutAsked (inputs nodes : ℕ) (fan count order : List ℕ) (t : ℕ) (leaves sizes walked met : List ℕ) : Type 0 where
-  pub walk : WalkRoom inputs nodes fan count order t (drop (6 * t) leaves) (getD sizes t 0) walked met
-  pub sized : t < length sizes
-  pub placed : 6 * t ≤ length leaves
+pub record CutAsked (inputs nodes k : ℕ) (fanins order : List ℕ) (t : ℕ) (cuts roles : List ℕ) : Type 0 where
+  pub walk : WalkRoom inputs nodes k fanins order t (drop (7 * t + 1) cuts) (sizeAt cuts t) roles
+  pub long : 7 * t + 7 ≤ length cuts
+  pub six : sizeAt cuts t ≤ 6
 
 -- 26
 
-pub record LabelAsked (labels leaves sizes : List ℕ) (t : ℕ) : Type 0 where
+pub record LabelAsked (labels cuts : List ℕ) (t : ℕ) : Type 0 where
   pub labelled : t < length labels
-  pub sized : t < length sizes
-  pub placed : 6 * t + getD sizes t 0 ≤ length leaves
-  pub leaves-labelled : (v : ℕ) → List·Memᴰ v (faninsAt leaves sizes t) → v < length labels
+  pub long : 7 * t + 7 ≤ length cuts
+  pub six : sizeAt cuts t ≤ 6
+  pub leaves-labelled : (v : ℕ) → List·Memᴰ v (listAt cuts t) → v < length labels
 
 -- "1 + the greatest leaf label", and p or p + 1
 pub record LabelRight (lab : ℕ → ℕ) (leaves : List ℕ) (p t : ℕ) : Type 0 where
@@ -83,20 +54,17 @@ pub record LabelRight (lab : ℕ → ℕ) (leaves : List ℕ) (p t : ℕ) : Type
 
 -- 27
 
--- A gate of a drawing with its order, its p by the labels that an array holds, and marks.
-pub record AtGate (inputs nodes k : ℕ) (fan count order : List ℕ) (t : ℕ) (labels : List ℕ) (p : ℕ) (s : Scratch) : Type 0 where
-  pub drawn : Drawn inputs nodes k fan count
-  pub ordered : Ordered (netIn inputs nodes fan count) (take (nodes - inputs) order)
-  pub order-long : nodes ≤ inputs + length order
-  pub ids : nodes ≤ 65536
-  pub gate : Gate (netIn inputs nodes fan count) t
+-- A gate of a drawing with its order, its p by the labels that an array holds, and room for roles.
+pub record AtGate (inputs nodes k : ℕ) (fanins order : List ℕ) (t : ℕ) (labels : List ℕ) (p : ℕ) (roles : List ℕ) : Type 0 where
+  pub drawing : Arranged inputs nodes k fanins order
+  pub gate : Gate (netIn inputs nodes fanins) t
   pub labels-long : nodes ≤ length labels
-  pub peak-known : p ≡ peak (netIn inputs nodes fan count) (labelIn labels) t
-  pub long : ScratchLong nodes s
+  pub peak-known : p ≡ peak (netIn inputs nodes fanins) (labelIn labels) t
+  pub roles-long : nodes ≤ length roles
 
-pub record EvidenceAsked (inputs nodes : ℕ) (fan count order : List ℕ) (t : ℕ) (labels : List ℕ) (p : ℕ) (bytes : List ℕ) (at width q : ℕ) (s : Scratch) : Type 0 where
-  pub k : ℕ
-  pub at-gate : AtGate inputs nodes k fan count order t labels p s
+pub record EvidenceAsked (inputs nodes k : ℕ) (fanins order : List ℕ) (t : ℕ) (labels : List ℕ) (p : ℕ) (bytes : List ℕ) (at width q : ℕ)
+    (roles : List ℕ) : Type 0 where
+  pub at-gate : AtGate inputs nodes k fanins order t labels p roles
   pub stand : PathsStand nodes bytes at width q
 
 -- each is a true path, and "No node is on two paths or twice on one."
@@ -104,9 +72,9 @@ pub record TruePaths (net : Net) (lab : ℕ → ℕ) (t : ℕ) (paths : List (Li
   pub each : (path : List ℕ) → List·Memᴰ path paths → TruePath net lab t path
   pub apart : NoRepeats (joined paths)
 
-pub record Told (nodes : ℕ) (P : Type 0) (s : Scratch) (r : Bool) (s′ : Scratch) : Type 0 where
+pub record Told (nodes : ℕ) (P : Type 0) (roles : List ℕ) (r : Bool) (roles′ : List ℕ) : Type 0 where
   pub reply : Tells P r
-  pub beyond : BeyondKept nodes s s′
+  pub rest : Beyond nodes roles roles′
 
 -- the line at `at` is in shape, and its numbers have at most eight bytes
 pub record LineStands (form : Form) (k inputs nodes : ℕ) (bytes : List ℕ) (at : ℕ) : Type 0 where
@@ -114,8 +82,9 @@ pub record LineStands (form : Form) (k inputs nodes : ℕ) (bytes : List ℕ) (a
   pub narrow : form .width ≤ 8
   pub sound : lineRuling (dueFrom form most k inputs nodes) bytes at ≡ Sound
 
-pub record PathsRuleAsked (form : Form) (inputs nodes k : ℕ) (fan count order : List ℕ) (t : ℕ) (labels : List ℕ) (p : ℕ) (bytes : List ℕ) (at : ℕ) (s : Scratch) : Type 0 where
-  pub at-gate : AtGate inputs nodes k fan count order t labels p s
+pub record PathsRuleAsked (form : Form) (inputs nodes k : ℕ) (fanins order : List ℕ) (t : ℕ) (labels : List ℕ) (p : ℕ) (bytes : List ℕ) (at : ℕ)
+    (roles : List ℕ) : Type 0 where
+  pub at-gate : AtGate inputs nodes k fanins order t labels p roles
   pub line : LineStands form k inputs nodes bytes at
 
 -- Pass two
@@ -143,45 +112,40 @@ Judges net k lines ts r =
 pub record Lined : Type 0 where
   pub form : Form
   pub labels : List ℕ
-  pub leaves : List ℕ
-  pub sizes : List ℕ
+  pub cuts : List ℕ
   pub places : List ℕ
   pub bytes : List ℕ
 
-abbrev pub linedOf : Form → (labels leaves sizes places bytes : List ℕ) → Lined
-linedOf form labels leaves sizes places bytes =
-    record { form = form; labels = labels; leaves = leaves; sizes = sizes; places = places; bytes = bytes }
+abbrev pub linedOf : Form → (labels cuts places bytes : List ℕ) → Lined
+linedOf form labels cuts places bytes = record { form = form; labels = labels; cuts = cuts; places = places; bytes = bytes }
 
 pub record HoldsSheet (k inputs nodes : ℕ) (l : Lined) (most : ℕ) (lines : List Line) : Type 0 where
-  pub in-arrays : HoldsLines inputs nodes lines (l .labels) (l .leaves) (l .sizes)
+  pub in-arrays : HoldsLines inputs nodes lines (l .labels) (l .cuts)
   pub in-bytes : HoldsPlaces (dueFrom (l .form) most k inputs nodes) (l .bytes) lines (l .places)
 
--- A drawing with its order, some lines of a sheet in the arrays, and marks.
-pub record JudgeAsked (k inputs nodes : ℕ) (fan count order : List ℕ) (l : Lined) (s : Scratch) : Type 0 where
-  pub drawn : Drawn inputs nodes k fan count
-  pub ordered : Ordered (netIn inputs nodes fan count) (take (nodes - inputs) order)
-  pub order-long : nodes ≤ inputs + length order
-  pub ids : nodes ≤ 65536
+-- A drawing with its order, some lines of a sheet in the arrays, and room for roles.
+pub record JudgeAsked (k inputs nodes : ℕ) (fanins order : List ℕ) (l : Lined) (roles : List ℕ) : Type 0 where
+  pub drawing : Arranged inputs nodes k fanins order
   pub narrow : l .form .width ≤ 8
   pub most : ℕ
   pub lines : List Line
   pub holds : HoldsSheet k inputs nodes l most lines
-  pub long : ScratchLong nodes s
+  pub roles-long : nodes ≤ length roles
 
-pub record GateAsked (k inputs nodes : ℕ) (fan count order : List ℕ) (l : Lined) (t : ℕ) (s : Scratch) : Type 0 where
-  pub asked : JudgeAsked k inputs nodes fan count order l s
-  pub gate : Gate (netIn inputs nodes fan count) t
+pub record GateAsked (k inputs nodes : ℕ) (fanins order : List ℕ) (l : Lined) (t : ℕ) (roles : List ℕ) : Type 0 where
+  pub asked : JudgeAsked k inputs nodes fanins order l roles
+  pub gate : Gate (netIn inputs nodes fanins) t
 
 -- the reply is right for all lines that the arrays and the bytes hold
-abbrev pub JudgesHeld : (k inputs nodes : ℕ) (fan count : List ℕ) (l : Lined) (ts : List ℕ) → Judged → Type 0
-JudgesHeld k inputs nodes fan count l ts r =
-    (most : ℕ) (lines : List Line) → HoldsSheet k inputs nodes l most lines → Judges (netIn inputs nodes fan count) k lines ts r
+abbrev pub JudgesHeld : (k inputs nodes : ℕ) (fanins : List ℕ) (l : Lined) (ts : List ℕ) → Judged → Type 0
+JudgesHeld k inputs nodes fanins l ts r =
+    (most : ℕ) (lines : List Line) → HoldsSheet k inputs nodes l most lines → Judges (netIn inputs nodes fanins) k lines ts r
 
-pub record GatesTried (k inputs nodes : ℕ) (fan count : List ℕ) (l : Lined) (ts : List ℕ) (s : Scratch) (r : Judged) (s′ : Scratch) : Type 0 where
-  pub reply : JudgesHeld k inputs nodes fan count l ts r
-  pub beyond : BeyondKept nodes s s′
+pub record GatesTried (k inputs nodes : ℕ) (fanins : List ℕ) (l : Lined) (ts roles : List ℕ) (r : Judged) (roles′ : List ℕ) : Type 0 where
+  pub reply : JudgesHeld k inputs nodes fanins l ts r
+  pub rest : Beyond nodes roles roles′
 
--- The reply on all gates, and the marks are left at 0.
-pub record GatesJudged (k inputs nodes : ℕ) (fan count : List ℕ) (l : Lined) (s : Scratch) (r : Judged) (s′ : Scratch) : Type 0 where
-  pub reply : JudgesHeld k inputs nodes fan count l (gates (netIn inputs nodes fan count)) r
-  pub cleared : ScratchCleared nodes s s′
+-- The reply on all gates, and the roles are left at 0.
+pub record GatesJudged (k inputs nodes : ℕ) (fanins : List ℕ) (l : Lined) (roles : List ℕ) (r : Judged) (roles′ : List ℕ) : Type 0 where
+  pub reply : JudgesHeld k inputs nodes fanins l (gates (netIn inputs nodes fanins)) r
+  pub roles-clear : roles′ ≡ cleared nodes roles

@@ -4,13 +4,15 @@ use Prim.Native.Nat.{ℕ, _+_, _*_, _≤_, _<_}
 use mathlib.Core.Path.{_≡_}
 use mathlib.Core.Bool.{Bool, true, false, _&&_}
 use mathlib.Core.List.{List, [], _∷_}
-use lib.ListN.{length, getD, set, drop}
+use lib.ListN.{length, getD, set}
 use lib.Dec.{ltb, eqb}
 use Rattle.theory.specs.Lists.{isMember}
-use Rattle.walking.specs.Listing.{faninsAt}
-use Rattle.area.specs.Area.{Fed}
-use Rattle.sheet.specs.Shape.{idsAt, pathsAt, pathsUse, someEmpty, Below}
 use Rattle.theory.specs.Evidence.{joined}
+use Rattle.storage.specs.Entries.{Beyond}
+use Rattle.storage.specs.Lists.{listAt}
+use Rattle.storage.specs.Roles.{areaBit, endBit, areaIn, endsIn}
+use Rattle.storage.specs.Drawings.{Fed}
+use Rattle.sheet.specs.Shape.{idsAt, pathsAt, pathsUse, someEmpty, Below}
 
 abbrev pub isMarked : List ℕ → ℕ → Bool
 isMarked marks v = eqb (getD marks v 0) 1
@@ -20,11 +22,11 @@ unfoldable pub afterPath : (free : List ℕ) → List ℕ → List ℕ
 afterPath free [] = free
 afterPath free (v ∷ vs) = afterPath (set free v 0) vs
 
-module _ (fan count ends : List ℕ) where
+module _ (fanins ends : List ℕ) where
   -- from u the path "goes from fanin to gate", each node free, and "its last node" is an end
   unfoldable pub goesOn : (free : List ℕ) → ℕ → List ℕ → Bool
   goesOn free u [] = isMarked ends u
-  goesOn free u (v ∷ vs) = (isMember u (faninsAt fan count v) && isMarked free v) && goesOn (set free v 0) v vs
+  goesOn free u (v ∷ vs) = (isMember u (listAt fanins v) && isMarked free v) && goesOn (set free v 0) v vs
 
   module _ (inputs : ℕ) where
     -- "Each starts at an input"
@@ -36,12 +38,18 @@ module _ (fan count ends : List ℕ) where
     arePaths free [] = true
     arePaths free (path ∷ paths) = isPath free path && arePaths (afterPath free path) paths
 
--- A drawing's fanins, and marks at its nodes.
-pub record PathRoom (nodes : ℕ) (fan count free ends : List ℕ) : Type 0 where
-  pub ids : nodes ≤ 65536
-  pub fed : (v : ℕ) → v < nodes → Fed fan count v nodes
-  pub free-long : nodes ≤ length free
-  pub ends-long : nodes ≤ length ends
+-- v has got a role by which it is free no more, and an end if it was one.
+pub record Taken (roles : List ℕ) (v : ℕ) (roles′ : List ℕ) : Type 0 where
+  pub role : ℕ
+  pub stored : roles′ ≡ set roles v role
+  pub unfree : areaBit role ≡ 0
+  pub end-still : endBit role ≡ endBit (getD roles v 0)
+
+-- A drawing's fanins, and roles of its nodes.
+pub record PathRoom (nodes : ℕ) (fanins roles : List ℕ) : Type 0 where
+  pub small : nodes ≤ 32767
+  pub fed : (v : ℕ) → v < nodes → Fed fanins v nodes
+  pub roles-long : nodes ≤ length roles
 
 -- Ids stand in the bytes from a place on, and are nodes.
 pub record IdsStand (nodes : ℕ) (s : List ℕ) (at width size : ℕ) : Type 0 where
@@ -50,21 +58,22 @@ pub record IdsStand (nodes : ℕ) (s : List ℕ) (at width size : ℕ) : Type 0 
   pub below : Below nodes (idsAt s at width size)
 
 -- The path goes on from node u with ids that stand in the bytes.
-pub record GoesAsked (fan count : List ℕ) (u : ℕ) (s : List ℕ) (at width size : ℕ) (free ends : List ℕ) : Type 0 where
+pub record GoesAsked (fanins : List ℕ) (u : ℕ) (s : List ℕ) (at width size : ℕ) (roles : List ℕ) : Type 0 where
   pub nodes : ℕ
-  pub room : PathRoom nodes fan count free ends
+  pub room : PathRoom nodes fanins roles
   pub stand : IdsStand nodes s at width size
   pub node : u < nodes
 
--- The reply is the test's; where it passes, the nodes are taken; no mark is touched but theirs.
-pub record PathTold (test : Bool) (ids free : List ℕ) (r : Bool) (free′ : List ℕ) : Type 0 where
+-- The reply is the test's; where it passes, the nodes are taken; ends stay ends, and no role is touched but the nodes'.
+pub record PathTold (test : Bool) (ids roles : List ℕ) (r : Bool) (roles′ : List ℕ) : Type 0 where
   pub reply : r ≡ test
-  pub taken : r ≡ true → free′ ≡ afterPath free ids
-  pub beyond : (n : ℕ) → Below n ids → drop n free′ ≡ drop n free
+  pub taken : r ≡ true → areaIn roles′ ≡ afterPath (areaIn roles) ids
+  pub ends-still : endsIn roles′ ≡ endsIn roles
+  pub beyond : (n : ℕ) → Below n ids → Beyond n roles roles′
 
-pub record PathAsked (fan count s : List ℕ) (at width size : ℕ) (free ends : List ℕ) : Type 0 where
+pub record PathAsked (fanins s : List ℕ) (at width size : ℕ) (roles : List ℕ) : Type 0 where
   pub nodes : ℕ
-  pub room : PathRoom nodes fan count free ends
+  pub room : PathRoom nodes fanins roles
   pub stand : IdsStand nodes s at width size
   pub some : 1 ≤ size
 
@@ -77,11 +86,11 @@ pub record PathsStand (nodes : ℕ) (s : List ℕ) (at width q : ℕ) : Type 0 w
   pub filled : someEmpty (pathsAt s at width q) ≡ false
   pub below : Below nodes (joined (pathsAt s at width q))
 
-pub record PathsAsked (fan count s : List ℕ) (at width q : ℕ) (free ends : List ℕ) : Type 0 where
+pub record PathsAsked (fanins s : List ℕ) (at width q : ℕ) (roles : List ℕ) : Type 0 where
   pub nodes : ℕ
-  pub room : PathRoom nodes fan count free ends
+  pub room : PathRoom nodes fanins roles
   pub stand : PathsStand nodes s at width q
 
-pub record PathsTold (test : Bool) (ids free : List ℕ) (r : Bool) (free′ : List ℕ) : Type 0 where
+pub record PathsTold (test : Bool) (ids roles : List ℕ) (r : Bool) (roles′ : List ℕ) : Type 0 where
   pub reply : r ≡ test
-  pub beyond : (n : ℕ) → Below n ids → drop n free′ ≡ drop n free
+  pub beyond : (n : ℕ) → Below n ids → Beyond n roles roles′

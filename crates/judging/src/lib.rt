@@ -2,15 +2,15 @@
 mod paths;
 mod rules;
 
-use covering::marks::clear;
-use drawing::CutSize;
-use drawing::Node;
 use sheet::Form;
+use storage::Node;
+use storage::Numbers;
+use storage::marks::clear;
 ghost use mathlib.Core.Path.{_≡_};
 ghost use mathlib.Core.List.{[], _∷_};
-ghost use Rattle.drawing.specs.Table.{netIn};
+ghost use Rattle.storage.specs.Drawings.{netIn};
 ghost use Rattle.sheet.specs.Rules.{gates};
-ghost use Rattle.judging.specs.Gates.{isKept, linedOf, scratchOf, JudgeAsked, GateAsked, GatesTried, GatesJudged};
+ghost use Rattle.judging.specs.Gates.{isKept, linedOf, JudgeAsked, GateAsked, GatesTried, GatesJudged};
 
 // The first rule that is not kept, with its gate.
 pub enum Judged {
@@ -23,65 +23,41 @@ pub enum Judged {
 // The three rules at one gate.
 fn judge_gate(
     form: Form,
-    k: CutSize,
-    inputs: usize,
-    nodes: usize,
-    fan: &[u16],
-    count: &[u8],
+    numbers: Numbers,
+    fanins: &[u16],
     order: &[u16],
     labels: &[u16],
-    leaves: &[u16],
-    sizes: &[u8],
+    cuts: &[u16],
     places: &[u32],
     sheet: &[u8],
     gate: Node,
-    walked: &mut [u8],
-    met: &mut [u8],
-    area: &mut [u8],
-    ends: &mut [u8],
+    roles: &mut [u8],
 ) -> Judged
-    requires { ⌜ GateAsked (k .leaves) inputs nodes (now fan) (now count) (now order) (linedOf form (now labels) (now leaves) (now sizes) (now places) (now sheet)) (gate .id) (scratchOf (now walked) (now met) (now area) (now ends)) ⌝ }
-    ensures { λ r. ⌜ GatesTried (k .leaves) inputs nodes (now (fan .entry)) (now (count .entry)) (linedOf form (now (labels .entry)) (now (leaves .entry)) (now (sizes .entry)) (now (places .entry)) (now (sheet .entry))) (gate .id ∷ []) (scratchOf (now (walked .entry)) (now (met .entry)) (now (area .entry)) (now (ends .entry))) r (scratchOf (now (walked .exit)) (now (met .exit)) (now (area .exit)) (now (ends .exit))) ⌝ }
+    requires { ⌜ GateAsked (numbers .k .leaves) (numbers .inputs) (numbers .nodes) (now fanins) (now order)
+        (linedOf form (now labels) (now cuts) (now places) (now sheet)) (gate .id) (now roles) ⌝ }
+    ensures { λ r. ⌜ GatesTried (numbers .k .leaves) (numbers .inputs) (numbers .nodes) (now (fanins .entry))
+        (linedOf form (now (labels .entry)) (now (cuts .entry)) (now (places .entry)) (now (sheet .entry))) (gate .id ∷ []) (now (roles .entry)) r (now (roles .exit)) ⌝ }
 {
-    if !rules::keeps_cut(
-        fan,
-        count,
-        inputs,
-        nodes,
-        order,
-        k,
-        gate,
-        leaves,
-        sizes,
-        walked,
-        met,
-    ) {
+    if !rules::keeps_cut(numbers, fanins, order, gate, cuts, roles) {
         return Judged::Cut(gate);
     }
-    let p = area::peak(fan, count, gate, labels);
-    if !rules::keeps_label(labels, leaves, sizes, gate, p) {
+    let p = area::peak(fanins, gate, labels);
+    if !rules::keeps_label(labels, cuts, gate, p) {
         return Judged::Label(gate);
     }
     let v = gate.id as usize;
     let at = places[v] as usize;
     if !rules::keeps_paths(
         form,
-        k,
-        inputs,
-        nodes,
-        fan,
-        count,
+        numbers,
+        fanins,
         order,
         labels,
-        leaves,
         gate,
         p,
         sheet,
         at,
-        walked,
-        met,
-        area,
-        ends,
+        roles,
     ) {
         return Judged::Paths(gate);
     }
@@ -102,46 +78,36 @@ fn is_kept(found: Judged) -> bool
 // The three rules at each gate, gates rising.
 fn first_broken(
     form: Form,
-    k: CutSize,
-    inputs: usize,
-    nodes: usize,
-    fan: &[u16],
-    count: &[u8],
+    numbers: Numbers,
+    fanins: &[u16],
     order: &[u16],
     labels: &[u16],
-    leaves: &[u16],
-    sizes: &[u8],
+    cuts: &[u16],
     places: &[u32],
     sheet: &[u8],
-    walked: &mut [u8],
-    met: &mut [u8],
-    area: &mut [u8],
-    ends: &mut [u8],
+    roles: &mut [u8],
 ) -> Judged
-    requires { ⌜ JudgeAsked (k .leaves) inputs nodes (now fan) (now count) (now order) (linedOf form (now labels) (now leaves) (now sizes) (now places) (now sheet)) (scratchOf (now walked) (now met) (now area) (now ends)) ⌝ }
-    ensures { λ r. ⌜ GatesTried (k .leaves) inputs nodes (now (fan .entry)) (now (count .entry)) (linedOf form (now (labels .entry)) (now (leaves .entry)) (now (sizes .entry)) (now (places .entry)) (now (sheet .entry))) (gates (netIn inputs nodes (now (fan .entry)) (now (count .entry)))) (scratchOf (now (walked .entry)) (now (met .entry)) (now (area .entry)) (now (ends .entry))) r (scratchOf (now (walked .exit)) (now (met .exit)) (now (area .exit)) (now (ends .exit))) ⌝ }
+    requires { ⌜ JudgeAsked (numbers .k .leaves) (numbers .inputs) (numbers .nodes) (now fanins) (now order)
+        (linedOf form (now labels) (now cuts) (now places) (now sheet)) (now roles) ⌝ }
+    ensures { λ r. ⌜ GatesTried (numbers .k .leaves) (numbers .inputs) (numbers .nodes) (now (fanins .entry))
+        (linedOf form (now (labels .entry)) (now (cuts .entry)) (now (places .entry)) (now (sheet .entry)))
+        (gates (netIn (numbers .inputs) (numbers .nodes) (now (fanins .entry)))) (now (roles .entry)) r (now (roles .exit)) ⌝ }
 {
-    let mut t = inputs;
+    let nodes = numbers.nodes;
+    let mut t = numbers.inputs;
     while t < nodes {
         let gate = Node { id: t as u16 };
         let found = judge_gate(
             form,
-            k,
-            inputs,
-            nodes,
-            fan,
-            count,
+            numbers,
+            fanins,
             order,
             labels,
-            leaves,
-            sizes,
+            cuts,
             places,
             sheet,
             gate,
-            walked,
-            met,
-            area,
-            ends,
+            roles,
         );
         if !is_kept(found) {
             return found;
@@ -152,50 +118,35 @@ fn first_broken(
 }
 
 // Pass two: tries 25, 26, 27 on each gate, gates rising, by the sheet's lines: their labels and cuts stand in the arrays, their paths in
-// the bytes at `places`. Each gate costs a walk of the drawing, and each path's node its fanins. Whatever the marks held, their first
+// the bytes at `places`. Each gate costs a walk of the drawing, and each path's node its fanins. Whatever the roles held, their first
 // `nodes` entries are left at 0.
 pub fn judge_gates(
     form: Form,
-    k: CutSize,
-    inputs: usize,
-    nodes: usize,
-    fan: &[u16],
-    count: &[u8],
+    numbers: Numbers,
+    fanins: &[u16],
     order: &[u16],
     labels: &[u16],
-    leaves: &[u16],
-    sizes: &[u8],
+    cuts: &[u16],
     places: &[u32],
     sheet: &[u8],
-    walked: &mut [u8],
-    met: &mut [u8],
-    area: &mut [u8],
-    ends: &mut [u8],
+    roles: &mut [u8],
 ) -> Judged
-    requires { ⌜ JudgeAsked (k .leaves) inputs nodes (now fan) (now count) (now order) (linedOf form (now labels) (now leaves) (now sizes) (now places) (now sheet)) (scratchOf (now walked) (now met) (now area) (now ends)) ⌝ }
-    ensures { λ r. ⌜ GatesJudged (k .leaves) inputs nodes (now (fan .entry)) (now (count .entry)) (linedOf form (now (labels .entry)) (now (leaves .entry)) (now (sizes .entry)) (now (places .entry)) (now (sheet .entry))) (scratchOf (now (walked .entry)) (now (met .entry)) (now (area .entry)) (now (ends .entry))) r (scratchOf (now (walked .exit)) (now (met .exit)) (now (area .exit)) (now (ends .exit))) ⌝ }
+    requires { ⌜ JudgeAsked (numbers .k .leaves) (numbers .inputs) (numbers .nodes) (now fanins) (now order)
+        (linedOf form (now labels) (now cuts) (now places) (now sheet)) (now roles) ⌝ }
+    ensures { λ r. ⌜ GatesJudged (numbers .k .leaves) (numbers .inputs) (numbers .nodes) (now (fanins .entry))
+        (linedOf form (now (labels .entry)) (now (cuts .entry)) (now (places .entry)) (now (sheet .entry))) (now (roles .entry)) r (now (roles .exit)) ⌝ }
 {
     let found = first_broken(
         form,
-        k,
-        inputs,
-        nodes,
-        fan,
-        count,
+        numbers,
+        fanins,
         order,
         labels,
-        leaves,
-        sizes,
+        cuts,
         places,
         sheet,
-        walked,
-        met,
-        area,
-        ends,
+        roles,
     );
-    clear(walked, nodes);
-    clear(met, nodes);
-    clear(area, nodes);
-    clear(ends, nodes);
+    clear(roles, numbers.nodes);
     found
 }

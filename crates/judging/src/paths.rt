@@ -1,18 +1,24 @@
-// A line's paths, read from the sheet's bytes and checked node by node: each node of the paths is looked at once, with its fanins.
-use area::arrays::fanin;
-use area::arrays::fanin_count;
-use drawing::Node;
+// A line's paths, read from the sheet's bytes and checked node by node: each node of the paths is looked at once, with its fanins. A path
+// takes its nodes by their roles: a node of the area that is taken is free no more, and an end that is taken stays an end.
 use drawing::bytes::number_at;
+use storage::Node;
+use storage::lists::entry_at;
+use storage::lists::size_at;
+use storage::roles::AREA;
+use storage::roles::END;
+use storage::roles::TAKEN;
+use storage::roles::TAKEN_END;
 ghost use mathlib.Core.Path.{_≡_};
-ghost use mathlib.Core.Bool.{_&&_};
+ghost use mathlib.Core.Bool.{true, _&&_};
 ghost use Prim.Native.Nat.{_+_, _*_, _≤_, _<_};
-ghost use lib.ListN.{length, getD, set};
+ghost use lib.ListN.{length};
+ghost use Rattle.storage.specs.Lists.{sizeAt, listAt};
+ghost use Rattle.storage.specs.Roles.{areaIn, endsIn};
 ghost use Rattle.drawing.specs.Bytes.{numberAt};
 ghost use Rattle.theory.specs.Evidence.{joined};
 ghost use Rattle.theory.specs.Lists.{isMember};
-ghost use Rattle.walking.specs.Listing.{faninsAt};
 ghost use Rattle.sheet.specs.Shape.{idsAt, pathsAt};
-ghost use Rattle.judging.specs.Paths.{isMarked, goesOn, isPath, arePaths, GoesAsked, PathAsked, PathTold, PathsAsked, PathsTold};
+ghost use Rattle.judging.specs.Paths.{isMarked, goesOn, isPath, arePaths, Taken, GoesAsked, PathAsked, PathTold, PathsAsked, PathsTold};
 
 // The id that stands at a place.
 fn id_at(s: &[u8], at: usize, width: usize) -> Node
@@ -26,33 +32,56 @@ fn id_at(s: &[u8], at: usize, width: usize) -> Node
     }
 }
 
-fn is_marked(marks: &[u8], node: Node) -> bool
-    requires { ⌜ node .id < length (now marks) ⌝ }
-    ensures { λ r. ⌜ r ≡ isMarked (now (marks .entry)) (node .id) ⌝ }
+// May a path take the node: does it lie in the area, and has no path taken it?
+fn is_free(roles: &[u8], node: Node) -> bool
+    requires { ⌜ node .id < length (now roles) ⌝ }
+    ensures { λ r. ⌜ r ≡ isMarked (areaIn (now (roles .entry))) (node .id) ⌝ }
 {
     let v = node.id as usize;
-    marks[v] == 1
+    let role = roles[v];
+    if role == AREA {
+        return true;
+    }
+    role == END
+}
+
+// May a path end at the node?
+fn is_end(roles: &[u8], node: Node) -> bool
+    requires { ⌜ node .id < length (now roles) ⌝ }
+    ensures { λ r. ⌜ r ≡ isMarked (endsIn (now (roles .entry))) (node .id) ⌝ }
+{
+    let v = node.id as usize;
+    let role = roles[v];
+    if role == END {
+        return true;
+    }
+    role == TAKEN_END
 }
 
 // A path takes the node.
-fn take(free: &mut [u8], node: Node)
-    requires { ⌜ node .id < length (now free) ⌝ }
-    ensures { λ _. ⌜ now (free .exit) ≡ set (now (free .entry)) (node .id) 0 ⌝ }
+fn take(roles: &mut [u8], node: Node)
+    requires { ⌜ node .id < length (now roles) ⌝ }
+    requires { ⌜ isMarked (areaIn (now roles)) (node .id) ≡ true ⌝ }
+    ensures { λ _. ⌜ Taken (now (roles .entry)) (node .id) (now (roles .exit)) ⌝ }
 {
     let v = node.id as usize;
-    free[v] = 0;
+    if roles[v] == END {
+        roles[v] = TAKEN_END;
+        return;
+    }
+    roles[v] = TAKEN;
 }
 
 // Is the node a fanin of the gate?
-fn feeds(fan: &[u16], count: &[u8], node: Node, gate: Node) -> bool
-    requires { ⌜ gate .id < length (now count) ⌝ }
-    requires { ⌜ 6 * gate .id + getD (now count) (gate .id) 0 ≤ length (now fan) ⌝ }
-    ensures { λ r. ⌜ r ≡ isMember (node .id) (faninsAt (now (fan .entry)) (now (count .entry)) (gate .id)) ⌝ }
+fn feeds(fanins: &[u16], node: Node, gate: Node) -> bool
+    requires { ⌜ 7 * gate .id + 7 ≤ length (now fanins) ⌝ }
+    requires { ⌜ sizeAt (now fanins) (gate .id) ≤ 6 ⌝ }
+    ensures { λ r. ⌜ r ≡ isMember (node .id) (listAt (now (fanins .entry)) (gate .id)) ⌝ }
 {
-    let m = fanin_count(count, gate);
+    let m = size_at(fanins, gate);
     let mut i: usize = 0;
     while i < m {
-        let u = fanin(fan, gate, i);
+        let u = entry_at(fanins, gate, i);
         if u.id == node.id {
             return true;
         }
@@ -62,106 +91,96 @@ fn feeds(fan: &[u16], count: &[u8], node: Node, gate: Node) -> bool
 }
 
 // Can the path go on from one node to the next?
-fn follows(fan: &[u16], count: &[u8], node: Node, next: Node, free: &[u8]) -> bool
-    requires { ⌜ next .id < length (now count) ⌝ }
-    requires { ⌜ 6 * next .id + getD (now count) (next .id) 0 ≤ length (now fan) ⌝ }
-    requires { ⌜ next .id < length (now free) ⌝ }
-    ensures { λ r. ⌜ r ≡ (isMember (node .id) (faninsAt (now (fan .entry)) (now (count .entry)) (next .id)) && isMarked (now (free .entry)) (next .id)) ⌝ }
+fn follows(fanins: &[u16], node: Node, next: Node, roles: &[u8]) -> bool
+    requires { ⌜ 7 * next .id + 7 ≤ length (now fanins) ⌝ }
+    requires { ⌜ sizeAt (now fanins) (next .id) ≤ 6 ⌝ }
+    requires { ⌜ next .id < length (now roles) ⌝ }
+    ensures { λ r. ⌜ r ≡ (isMember (node .id) (listAt (now (fanins .entry)) (next .id)) && isMarked (areaIn (now (roles .entry))) (next .id)) ⌝ }
 {
-    if !feeds(fan, count, node, next) {
+    if !feeds(fanins, node, next) {
         return false;
     }
-    is_marked(free, next)
+    is_free(roles, next)
 }
 
 // Does the path go on from a node to its end, by the `size` ids from a place on?
 fn goes_on(
-    fan: &[u16],
-    count: &[u8],
+    fanins: &[u16],
     node: Node,
     s: &[u8],
     at: usize,
     width: usize,
     size: usize,
-    free: &mut [u8],
-    ends: &[u8],
+    roles: &mut [u8],
 ) -> bool
-    requires { ⌜ GoesAsked (now fan) (now count) (node .id) (now s) at width size (now free) (now ends) ⌝ }
-    ensures { λ r. ⌜ PathTold (goesOn (now (fan .entry)) (now (count .entry)) (now (ends .entry)) (now (free .entry)) (node .id) (idsAt (now (s .entry)) at width size)) (idsAt (now (s .entry)) at width size) (now (free .entry)) r (now (free .exit)) ⌝ }
+    requires { ⌜ GoesAsked (now fanins) (node .id) (now s) at width size (now roles) ⌝ }
+    ensures { λ r. ⌜ PathTold
+        (goesOn (now (fanins .entry)) (endsIn (now (roles .entry))) (areaIn (now (roles .entry))) (node .id) (idsAt (now (s .entry)) at width size))
+        (idsAt (now (s .entry)) at width size) (now (roles .entry)) r (now (roles .exit)) ⌝ }
 {
     let mut last = node;
     let mut place = at;
     let mut left = size;
     while 0 < left {
         let next = id_at(s, place, width);
-        if !follows(fan, count, last, next, free) {
+        if !follows(fanins, last, next, roles) {
             return false;
         }
-        take(free, next);
+        take(roles, next);
         last = next;
         place += width;
         left -= 1;
     }
-    is_marked(ends, last)
+    is_end(roles, last)
 }
 
 // Is what stands there a path: from an input, along fanins, over free nodes, to an end? Its nodes are taken.
 fn is_path(
-    fan: &[u16],
-    count: &[u8],
+    fanins: &[u16],
     inputs: usize,
     s: &[u8],
     at: usize,
     width: usize,
     size: usize,
-    free: &mut [u8],
-    ends: &[u8],
+    roles: &mut [u8],
 ) -> bool
-    requires { ⌜ PathAsked (now fan) (now count) (now s) at width size (now free) (now ends) ⌝ }
-    ensures { λ r. ⌜ PathTold (isPath (now (fan .entry)) (now (count .entry)) (now (ends .entry)) inputs (now (free .entry)) (idsAt (now (s .entry)) at width size)) (idsAt (now (s .entry)) at width size) (now (free .entry)) r (now (free .exit)) ⌝ }
+    requires { ⌜ PathAsked (now fanins) (now s) at width size (now roles) ⌝ }
+    ensures { λ r. ⌜ PathTold
+        (isPath (now (fanins .entry)) (endsIn (now (roles .entry))) inputs (areaIn (now (roles .entry))) (idsAt (now (s .entry)) at width size))
+        (idsAt (now (s .entry)) at width size) (now (roles .entry)) r (now (roles .exit)) ⌝ }
 {
     let first = id_at(s, at, width);
     if inputs <= first.id as usize {
         return false;
     }
-    if !is_marked(free, first) {
+    if !is_free(roles, first) {
         return false;
     }
-    take(free, first);
-    goes_on(
-        fan,
-        count,
-        first,
-        s,
-        at + width,
-        width,
-        size - 1,
-        free,
-        ends,
-    )
+    take(roles, first);
+    goes_on(fanins, first, s, at + width, width, size - 1, roles)
 }
 
 // Are the `q` that stand from a place on all paths, with no node on two?
 pub fn are_paths(
-    fan: &[u16],
-    count: &[u8],
+    fanins: &[u16],
     inputs: usize,
     s: &[u8],
     at: usize,
     width: usize,
     q: usize,
-    free: &mut [u8],
-    ends: &[u8],
+    roles: &mut [u8],
 ) -> bool
-    requires { ⌜ PathsAsked (now fan) (now count) (now s) at width q (now free) (now ends) ⌝ }
-    ensures { λ r. ⌜ PathsTold (arePaths (now (fan .entry)) (now (count .entry)) (now (ends .entry)) inputs (now (free .entry)) (pathsAt (now (s .entry)) at width q)) (joined (pathsAt (now (s .entry)) at width q)) (now (free .entry)) r (now (free .exit)) ⌝ }
+    requires { ⌜ PathsAsked (now fanins) (now s) at width q (now roles) ⌝ }
+    ensures { λ r. ⌜ PathsTold
+        (arePaths (now (fanins .entry)) (endsIn (now (roles .entry))) inputs (areaIn (now (roles .entry))) (pathsAt (now (s .entry)) at width q))
+        (joined (pathsAt (now (s .entry)) at width q)) (now (roles .entry)) r (now (roles .exit)) ⌝ }
 {
     let mut place = at;
     let mut left = q;
     while 0 < left {
         let size = number_at(s, place, width) as usize;
         let from = place + width;
-        if !is_path(fan, count, inputs, s, from, width, size, free, ends) {
+        if !is_path(fanins, inputs, s, from, width, size, roles) {
             return false;
         }
         place = from + size * width;

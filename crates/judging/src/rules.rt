@@ -1,67 +1,54 @@
 // Rules 25, 26 and 27 at a gate: is each kept?
 use crate::paths::are_paths;
-use area::arrays::label_of;
 use covering::covers::depth;
-use drawing::CutSize;
-use drawing::Label;
-use drawing::Node;
 use drawing::bytes::number_at;
 use sheet::Form;
+use storage::CutSize;
+use storage::Label;
+use storage::Node;
+use storage::Numbers;
+use storage::lists::PLACES;
+use storage::lists::cut_size;
+use storage::lists::size_at;
+use storage::marks::label_of;
 ghost use mathlib.Core.Path.{_≡_};
 ghost use Prim.Native.Nat.{suc, _+_, _≤_, _<_};
 ghost use lib.ListN.{length};
-ghost use Rattle.drawing.specs.Table.{netIn};
-ghost use Rattle.walking.specs.Listing.{Tells, faninsAt};
+ghost use Rattle.storage.specs.Drawings.{netIn};
+ghost use Rattle.storage.specs.Marks.{Tells};
+ghost use Rattle.storage.specs.Lists.{listAt};
 ghost use Rattle.walking.specs.Promises.{CutRuled};
 ghost use Rattle.area.specs.Area.{labelIn};
 ghost use Rattle.sheet.specs.Shape.{pathsAt};
 ghost use Rattle.sheet.specs.Rules.{PathsKept};
-ghost use Rattle.judging.specs.Gates.{pathsPlace, linePathsIn, scratchOf, CutAsked, LabelAsked, LabelRight, EvidenceAsked, TruePaths, Told, PathsRuleAsked};
+ghost use Rattle.judging.specs.Gates.{pathsPlace, linePathsIn, CutAsked, LabelAsked, LabelRight, EvidenceAsked, TruePaths, Told, PathsRuleAsked};
 
 // 25: are the leaves of the gate's line a cut of the gate?
 pub fn keeps_cut(
-    fan: &[u16],
-    count: &[u8],
-    inputs: usize,
-    nodes: usize,
+    numbers: Numbers,
+    fanins: &[u16],
     order: &[u16],
-    k: CutSize,
     gate: Node,
-    leaves: &[u16],
-    sizes: &[u8],
-    walked: &mut [u8],
-    met: &mut [u8],
+    cuts: &[u16],
+    roles: &mut [u8],
 ) -> bool
-    requires { ⌜ CutAsked inputs nodes (now fan) (now count) (now order) (gate .id) (now leaves) (now sizes) (now walked) (now met) ⌝ }
-    ensures { λ r. ⌜ CutRuled (netIn inputs nodes (now (fan .entry)) (now (count .entry))) (k .leaves) (faninsAt (now (leaves .entry)) (now (sizes .entry)) (gate .id)) (gate .id) (now (walked .entry)) (now (met .entry)) r (now (walked .exit)) (now (met .exit)) ⌝ }
+    requires { ⌜ CutAsked (numbers .inputs) (numbers .nodes) (numbers .k .leaves) (now fanins) (now order) (gate .id) (now cuts) (now roles) ⌝ }
+    ensures { λ r. ⌜ CutRuled (netIn (numbers .inputs) (numbers .nodes) (now (fanins .entry))) (numbers .k .leaves) (listAt (now (cuts .entry)) (gate .id)) (gate .id)
+        (now (roles .entry)) r (now (roles .exit)) ⌝ }
 {
-    let v = gate.id as usize;
-    let from = 6 * v;
-    let size = CutSize { leaves: sizes[v] };
-    walking::is_cut(
-        fan,
-        count,
-        inputs,
-        nodes,
-        order,
-        k,
-        gate,
-        &leaves[from..],
-        size,
-        walked,
-        met,
-    )
+    let size = cut_size(cuts, gate);
+    let from = PLACES * (gate.id as usize) + 1;
+    walking::is_cut(numbers, fanins, order, gate, &cuts[from..], size, roles)
 }
 
 // 26: is the gate's label 1 + the greatest label of its leaves, and p or p + 1?
-pub fn keeps_label(labels: &[u16], leaves: &[u16], sizes: &[u8], gate: Node, p: Label) -> bool
-    requires { ⌜ LabelAsked (now labels) (now leaves) (now sizes) (gate .id) ⌝ }
-    ensures { λ r. ⌜ Tells (LabelRight (labelIn (now (labels .entry))) (faninsAt (now (leaves .entry)) (now (sizes .entry)) (gate .id)) (p .depth) (gate .id)) r ⌝ }
+pub fn keeps_label(labels: &[u16], cuts: &[u16], gate: Node, p: Label) -> bool
+    requires { ⌜ LabelAsked (now labels) (now cuts) (gate .id) ⌝ }
+    ensures { λ r. ⌜ Tells (LabelRight (labelIn (now (labels .entry))) (listAt (now (cuts .entry)) (gate .id)) (p .depth) (gate .id)) r ⌝ }
 {
-    let v = gate.id as usize;
-    let from = 6 * v;
-    let size = sizes[v] as usize;
-    let deepest = depth(labels, &leaves[from..], size);
+    let size = size_at(cuts, gate);
+    let from = PLACES * (gate.id as usize) + 1;
+    let deepest = depth(labels, &cuts[from..], size);
     let label = label_of(labels, gate);
     if label.depth as usize != deepest.depth as usize + 1 {
         return false;
@@ -84,81 +71,52 @@ fn paths_place(form: Form, sheet: &[u8], at: usize) -> usize
     cut + 1 + size * width
 }
 
-// Are the `q` paths from a place on true, with no node on two? What lies behind the gate is walked afresh; the area's marks are cleared
-// where paths have passed.
+// Are the `q` paths from a place on true, with no node on two? What lies behind the gate is walked afresh, with no leaves, and the paths
+// take their nodes from the area.
 fn has_evidence(
-    fan: &[u16],
-    count: &[u8],
-    inputs: usize,
-    nodes: usize,
+    numbers: Numbers,
+    fanins: &[u16],
     order: &[u16],
     gate: Node,
     labels: &[u16],
     p: Label,
-    leaves: &[u16],
     sheet: &[u8],
     at: usize,
     width: usize,
     q: usize,
-    walked: &mut [u8],
-    met: &mut [u8],
-    area: &mut [u8],
-    ends: &mut [u8],
+    roles: &mut [u8],
 ) -> bool
-    requires { ⌜ EvidenceAsked inputs nodes (now fan) (now count) (now order) (gate .id) (now labels) (p .depth) (now sheet) at width q (scratchOf (now walked) (now met) (now area) (now ends)) ⌝ }
-    ensures { λ r. ⌜ Told nodes (TruePaths (netIn inputs nodes (now (fan .entry)) (now (count .entry))) (labelIn (now (labels .entry))) (gate .id) (pathsAt (now (sheet .entry)) at width q)) (scratchOf (now (walked .entry)) (now (met .entry)) (now (area .entry)) (now (ends .entry))) r (scratchOf (now (walked .exit)) (now (met .exit)) (now (area .exit)) (now (ends .exit))) ⌝ }
+    requires { ⌜ EvidenceAsked (numbers .inputs) (numbers .nodes) (numbers .k .leaves) (now fanins) (now order)
+        (gate .id) (now labels) (p .depth) (now sheet) at width q (now roles) ⌝ }
+    ensures { λ r. ⌜ Told (numbers .nodes)
+        (TruePaths (netIn (numbers .inputs) (numbers .nodes) (now (fanins .entry))) (labelIn (now (labels .entry))) (gate .id) (pathsAt (now (sheet .entry)) at width q))
+        (now (roles .entry)) r (now (roles .exit)) ⌝ }
 {
     let none = CutSize { leaves: 0 };
-    walking::walk(
-        fan,
-        count,
-        inputs,
-        nodes,
-        order,
-        gate,
-        leaves,
-        none,
-        walked,
-        met,
-    );
-    area::mark_area(
-        fan,
-        count,
-        inputs,
-        nodes,
-        gate,
-        labels,
-        p,
-        met,
-        walked,
-        area,
-        ends,
-    );
-    are_paths(fan, count, inputs, sheet, at, width, q, area, ends)
+    walking::walk(numbers, fanins, order, gate, labels, none, roles);
+    area::mark_area(numbers, fanins, gate, labels, p, roles);
+    are_paths(fanins, numbers.inputs, sheet, at, width, q, roles)
 }
 
 // 27: is evidence given exactly where it is due, and then true?
 pub fn keeps_paths(
     form: Form,
-    k: CutSize,
-    inputs: usize,
-    nodes: usize,
-    fan: &[u16],
-    count: &[u8],
+    numbers: Numbers,
+    fanins: &[u16],
     order: &[u16],
     labels: &[u16],
-    leaves: &[u16],
     gate: Node,
     p: Label,
     sheet: &[u8],
     at: usize,
-    walked: &mut [u8],
-    met: &mut [u8],
-    area: &mut [u8],
-    ends: &mut [u8],
+    roles: &mut [u8],
 ) -> bool
-    requires { ⌜ PathsRuleAsked form inputs nodes (k .leaves) (now fan) (now count) (now order) (gate .id) (now labels) (p .depth) (now sheet) at (scratchOf (now walked) (now met) (now area) (now ends)) ⌝ }
-    ensures { λ r. ⌜ Told nodes (PathsKept (netIn inputs nodes (now (fan .entry)) (now (count .entry))) (k .leaves) (labelIn (now (labels .entry))) (gate .id) (linePathsIn form (now (sheet .entry)) at)) (scratchOf (now (walked .entry)) (now (met .entry)) (now (area .entry)) (now (ends .entry))) r (scratchOf (now (walked .exit)) (now (met .exit)) (now (area .exit)) (now (ends .exit))) ⌝ }
+    requires { ⌜ PathsRuleAsked form (numbers .inputs) (numbers .nodes) (numbers .k .leaves) (now fanins) (now order)
+        (gate .id) (now labels) (p .depth) (now sheet) at (now roles) ⌝ }
+    ensures { λ r. ⌜ Told (numbers .nodes)
+        (PathsKept (netIn (numbers .inputs) (numbers .nodes) (now (fanins .entry))) (numbers .k .leaves) (labelIn (now (labels .entry))) (gate .id)
+        (linePathsIn form (now (sheet .entry)) at))
+        (now (roles .entry)) r (now (roles .exit)) ⌝ }
 {
     let width = form.width;
     let place = paths_place(form, sheet, at);
@@ -166,27 +124,22 @@ pub fn keeps_paths(
     if !owes(labels, gate, p) {
         return q == 0;
     }
+    let k = numbers.k;
     if q != k.leaves as usize + 1 {
         return false;
     }
     has_evidence(
-        fan,
-        count,
-        inputs,
-        nodes,
+        numbers,
+        fanins,
         order,
         gate,
         labels,
         p,
-        leaves,
         sheet,
         place + 1,
         width,
         q,
-        walked,
-        met,
-        area,
-        ends,
+        roles,
     )
 }
 

@@ -1,16 +1,15 @@
 -- A sheet that keeps every rule is right: its lines show the labels, its LUTs are a cover that computes what the gates compute, and no cover is
 -- shallower.
-use Prim.Native.Nat.{ℕ, suc, _+_, _-_, _≤_, _<_}
+use Prim.Native.Nat.{ℕ, _+_, _-_, _≤_, _<_}
 use native.Mathlib.Omega.{arith}
 use mathlib.Core.Path.{_≡_, refl, sym, _∙_, subst}
 use mathlib.Core.Bool.{true}
 use mathlib.Core.List.{List, [], _∷_, _++_, map, flatMap, List·Memᴰ, List·Memᴰ·head, List·Memᴰ·tail, Memᴰ·append-left, Memᴰ·append-right}
-use Rattle.theory.specs.Net.{Net, Gate, Input}
+use Rattle.theory.specs.Net.{Net, Gate}
 use Rattle.theory.specs.Sound.{Bounded, Ranked}
 use Rattle.theory.specs.Walk.{Cut}
-use Rattle.theory.specs.Values.{Values}
-use Rattle.theory.specs.Cover.{Luts, Wanted, Cover, Depths, Label}
-use Rattle.theory.specs.Lookup.{ConeTable, ObeysLuts}
+use Rattle.theory.specs.Cover.{Luts, Cover, Label}
+use Rattle.theory.specs.Lookup.{ConeTable}
 use Rattle.theory.specs.Lists.{greatest}
 use Rattle.theory.specs.Evidence.{Lines}
 use Rattle.theory.proofs.Rules.{lines-are-labels}
@@ -19,9 +18,10 @@ use Rattle.theory.specs.Lookup.{TablesFit}
 use Rattle.theory.proofs.Computes.{lutValue, lutValue-obeys, lutValue-inputs, luts-compute-outputs}
 use Rattle.theory.proofs.Valuations.{valueOf, valueOf-obeys}
 use Rattle.sheet.specs.Sheet.{Lut, Sheet}
-use Rattle.sheet.specs.Rules.{Rule, Keeps, LabelKept, PathsKept, CoverKept, DepthKept, gateRules, lutRules, gates, from, rulesOf, lineOfNode, labelsOf, lutsOf, isListed, leavesListed, tableListed}
+use Rattle.sheet.specs.Rules.{Rule, Keeps, LabelKept, PathsKept, CoverKept, DepthKept, gateRules, lutRules, gates, rulesOf, lineOfNode, labelsOf, lutsOf, leavesListed, tableListed}
+use Rattle.sheet.proofs.Firsts.{member-from}
 use Rattle.keeping.specs.Right.{Roots, KeepsAll, Computes, Right}
-use Rattle.keeping.proofs.Listed.{label-at-input, member-flat, member-map, member-from, ListedLut, listed-lut, root-gate}
+use Rattle.keeping.proofs.Listed.{label-at-input, member-flat, member-map, ListedLut, listed-lut, root-gate}
 
 -- The rules that are tried, by where they stand in the list
 

@@ -1,18 +1,17 @@
 -- Members of the lists that rules are tried along, the line of a node, and the LUT that a list of LUTs has for a root: where the roots rise, it
 -- is the only one.
-use Prim.Native.Nat.{ℕ, zero, suc, _+_, _-_, _≤_, _<_}
+use Prim.Native.Nat.{ℕ, suc, _+_, _-_, _≤_, _<_}
 use native.Mathlib.Decide.{ℕ-discrete}
 use native.Mathlib.Omega.{arith}
 use mathlib.Core.Path.{_≡_, refl, sym, ap, _∙_, subst}
-use mathlib.Core.Logic.{_⊎_, inl, inr, ⊎-elim}
+use mathlib.Core.Logic.{_⊎_, inl, inr}
 use mathlib.Core.Bool.{Bool, true, false, cond, _||_, false≢true}
-use mathlib.Core.List.{List, [], _∷_, _++_, map, flatMap, List·Memᴰ, List·Memᴰ·head, List·Memᴰ·tail, List·Memᴰ·not-nil, List·Memᴰ·cases-cons, List·Memᴰ·append-cases, Memᴰ·append-left, Memᴰ·append-right}
+use mathlib.Core.List.{List, [], _∷_, map, flatMap, List·Memᴰ, List·Memᴰ·head, List·Memᴰ·tail, List·Memᴰ·not-nil, List·Memᴰ·cases-cons, List·Memᴰ·append-cases, Memᴰ·append-left, Memᴰ·append-right}
 use borrow.Author.Tests.{lt-ltb, le-ltb, eq-eqb, ne-eqb}
 use lib.ListN.{getD}
 use lib.Dec.{eqb}
-use Rattle.theory.specs.Net.{Net, Gate}
-use Rattle.sheet.specs.Sheet.{Line, Lut, Sheet, noLine}
-use Rattle.sheet.specs.Rules.{lineOfNode, labelsOf, from, isListed, leavesListed, tableListed}
+use Rattle.sheet.specs.Sheet.{Line, Lut, noLine}
+use Rattle.sheet.specs.Rules.{lineOfNode, labelsOf, isListed, leavesListed, tableListed}
 use Rattle.keeping.specs.Right.{Roots}
 
 module _ {A B : Type 0} (f : A → List B) where
@@ -24,15 +23,6 @@ module _ {A B : Type 0} (f : A → List B) where
 pub member-map : {A B : Type 0} (f : A → B) {a : A} {l : List A} → List·Memᴰ a l → List·Memᴰ (f a) (map f l)
 member-map f (List·Memᴰ·head e) = List·Memᴰ·head (ap f e)
 member-map f (List·Memᴰ·tail m) = List·Memᴰ·tail (member-map f m)
-
-pub member-from : (v count u : ℕ) → v ≤ u → u < v + count → List·Memᴰ u (from v count)
-unfolding from
-member-from v zero u low high = absurd (omega arith)
-member-from v (suc count) u low high = at (member-from (suc v) count u) (ℕ-discrete u v)
-  where
-    at : (suc v ≤ u → u < suc v + count → List·Memᴰ u (from (suc v) count)) → Dec (u ≡ v) → List·Memᴰ u (v ∷ from (suc v) count)
-    at later (yes e) = List·Memᴰ·head e
-    at later (no other) = List·Memᴰ·tail (later (omega (arith, other)) (omega arith))
 
 -- The line of a node
 
@@ -143,12 +133,3 @@ map-member {A} {B} f {b} (x ∷ l) m = at (map-member f l) (List·Memᴰ·cases-
         (a : A) × (List·Memᴰ a (x ∷ l) × (b ≡ f a))
     at later (inl e) = (x, (List·Memᴰ·head refl, e))
     at later (inr there) = let (a, (member, on)) = later there in (a, (List·Memᴰ·tail member, on))
-
-pub from-member : (v count u : ℕ) → List·Memᴰ u (from v count) → (v ≤ u) × (u < v + count)
-unfolding from
-from-member v zero u m = absurd (List·Memᴰ·not-nil m)
-from-member v (suc count) u m = at (from-member (suc v) count u) (List·Memᴰ·cases-cons m)
-  where
-    at : (List·Memᴰ u (from (suc v) count) → (suc v ≤ u) × (u < suc v + count)) → (u ≡ v) ⊎ List·Memᴰ u (from (suc v) count) → (v ≤ u) × (u < v + suc count)
-    at later (inl e) = (omega arith, omega arith)
-    at later (inr there) = let (low, high) = later there in (omega arith, omega arith)

@@ -1,18 +1,16 @@
 -- The mapper's sheet keeps every rule. Its cuts are cuts and show the labels; the LUTs needed are a cover with these cuts, so each root's depth
 -- is its label, and the cover's the greatest of the outputs.
-use Prim.Native.Nat.{ℕ, suc, _+_, _-_, _≤_, _<_}
+use Prim.Native.Nat.{ℕ, suc, _+_, _-_, _<_}
 use native.Mathlib.Omega.{arith}
-use native.Mathlib.Decide.{ℕ-discrete, decLt}
-use mathlib.Core.Path.{_≡_, refl, sym, ap, _∙_, subst}
-use mathlib.Core.Logic.{_⊎_, inl, inr, ⊎-elim}
+use mathlib.Core.Path.{_≡_, sym, ap, _∙_, subst}
+use mathlib.Core.Logic.{_⊎_, ⊎-elim}
 use mathlib.Core.Bool.{true}
-use mathlib.Core.List.{List, [], _∷_, _++_, map, flatMap, List·Memᴰ, List·Memᴰ·not-nil, List·Memᴰ·cases-cons, List·Memᴰ·append-cases, List·Memᴰ·eq-of-singleton}
+use mathlib.Core.List.{List, [], _∷_, _++_, map, flatMap, List·Memᴰ, List·Memᴰ·cases-cons, List·Memᴰ·append-cases, List·Memᴰ·eq-of-singleton}
 use Rattle.theory.specs.Net.{Net, Gate, Input}
 use Rattle.theory.specs.Sound.{Bounded, Ranked}
 use Rattle.theory.specs.Walk.{Cut}
 use Rattle.theory.specs.Lists.{greatest}
 use Rattle.theory.specs.Cover.{Luts, Wanted, Cover, Depth, Depths, Label}
-use Rattle.theory.specs.Evidence.{peak, Owes}
 use Rattle.theory.specs.Lookup.{ConeTable}
 use Rattle.theory.proofs.Walks.{input-or-gate}
 use Rattle.theory.proofs.FlowMap.{Labels, label-peaked}
@@ -21,10 +19,11 @@ use Rattle.theory.proofs.Depths.{Placed}
 use Rattle.theory.proofs.MappersCovers.{depth-is-label, cover-depth-is-label}
 use Rattle.covering.specs.Covers.{Needed}
 use Rattle.sheet.specs.Sheet.{Lut, Sheet}
-use Rattle.sheet.specs.Rules.{Rule, Keeps, LabelKept, PathsKept, CoverKept, DepthKept, gateRules, lutRules, gates, from, rulesOf, lineOfNode, labelsOf, lutsOf, isListed, leavesListed, tableListed}
-use Rattle.keeping.specs.Right.{Roots, KeepsAll}
+use Rattle.sheet.specs.Rules.{Rule, Keeps, LabelKept, PathsKept, CoverKept, DepthKept, gateRules, lutRules, gates, lineOfNode, labelsOf, lutsOf, tableListed}
+use Rattle.sheet.proofs.Firsts.{from-member}
+use Rattle.keeping.specs.Right.{KeepsAll}
 use Rattle.keeping.specs.Mappers.{chosenBy, SheetWith}
-use Rattle.keeping.proofs.Listed.{label-at-input, ListedLut, listed-lut, root-gate, Stands, member-stands, flat-member, map-member, from-member}
+use Rattle.keeping.proofs.Listed.{label-at-input, ListedLut, listed-lut, root-gate, member-stands, flat-member, map-member}
 
 module _ {Asked : (ℕ → ℕ) → ℕ → List (List ℕ) → Type 0} (net : Net) (tables : ℕ → ℕ) (k : ℕ) (outputs : List ℕ) (sheet : Sheet) (bounded : Bounded net k)
     (ranked : Ranked net) (nodes : (v : ℕ) → List·Memᴰ v outputs → v < net .nodes) (mapper : SheetWith Asked net tables k outputs sheet) where

@@ -7,6 +7,9 @@ use mathlib.Core.Bool.{Bool, true, cond}
 use mathlib.Core.List.{List, [], List·Memᴰ}
 use borrow.Author.Tests.{le-ltb}
 use lib.ListN.{getD, replicate, List·getD-eq-default}
+use Rattle.storage.specs.Drawings.{Ordered}
+use Rattle.storage.proofs.Entries.{place-of}
+use Rattle.storage.specs.Lists.{Place}
 use Rattle.theory.specs.Net.{Net, Gate, Input}
 use Rattle.theory.specs.Walk.{Loop}
 use Rattle.theory.specs.Sound.{Bounded, Ranked}
@@ -18,15 +21,13 @@ use Rattle.drawing.specs.Reading.{Arrays, arraysOf, enough, found, tableOf, nod
 use Rattle.drawing.proofs.SoundTables.{SoundTable, table-sound}
 use Rattle.drawing.proofs.Held.{whole-holds}
 use Rattle.walking.specs.declared.Ordering.the-variants.{Whole}
-use Rattle.walking.specs.Arrays.{Ordered}
 use Rattle.walking.specs.Promises.{LoopRuling}
 use Rattle.walking.specs.Sweeps.{orderOf}
 use Rattle.walking.proofs.Orders.{order-whole, rankIn, rank-input, rank-at, ranked}
-use Rattle.walking.proofs.Entries.{Place, place-of}
 use Rattle.sheet.specs.Longest.{Drawing}
 
 some-arrays : Arrays
-some-arrays = arraysOf (replicate 1152 0) (replicate 192 0) (replicate 192 0) (replicate 64 0)
+some-arrays = arraysOf (replicate 1344 0) (replicate 192 0) (replicate 64 0)
 
 some-enough : enough some-arrays ≡ true
 unfolding some-arrays

@@ -1,13 +1,14 @@
 -- Labelling goes along the order: what lies behind a gate comes earlier, so its labels are known when the gate's turn comes, and storing the
 -- gate's label changes nothing for the gates before.
-use Prim.Native.Nat.{ℕ, zero, suc, _+_, _≤_, _<_}
-use native.Mathlib.Nat.{not-suc-le-zero}
+use Prim.Native.Nat.{ℕ, suc, _+_, _≤_, _<_}
 use native.Mathlib.Decide.{ℕ-discrete}
 use native.Mathlib.Omega.{arith}
 use mathlib.Core.Path.{_≡_, refl, sym, ap, subst, _∙_}
 use mathlib.Core.Logic.{_⊎_, inl, inr}
-use mathlib.Core.List.{List, [], List·Memᴰ, Memᴰ·cast}
+use mathlib.Core.List.{List, [], List·Memᴰ}
 use lib.ListN.{length, getD}
+use Rattle.storage.specs.Drawings.{Ordered}
+use Rattle.storage.proofs.Entries.{member-at, one-place}
 use Rattle.theory.specs.Net.{Net, Gate, Input}
 use Rattle.theory.specs.Sound.{Bounded, Ranked}
 use Rattle.theory.specs.Lists.{NoRepeats}
@@ -20,18 +21,13 @@ use Rattle.theory.proofs.Duality.{evidence-is-tight}
 use Rattle.theory.proofs.Rules.{peak-agrees}
 use Rattle.theory.proofs.Existence.{rules-exist}
 use Rattle.theory.proofs.FlowMap.{Labels, labels-at-inputs, label-peaked, label-over-inputs, label-at-peak, labels-never-fall}
-use Rattle.walking.specs.Arrays.{Ordered}
-use Rattle.area.proofs.Parts.{member-at}
-use Rattle.searching.specs.Searching.{TrueLabel}
+use Rattle.labelling.specs.Evidence.{TrueLabel}
 use Rattle.labelling.specs.Labelling.{Told, LabelledTo}
 use Rattle.labelling.proofs.Agreeing.{Agree, agree-back, least-cut-agrees, mappers-cut-agrees, tight-agrees, never-falls-agrees}
 
 -- two places of a list without repeats have different entries
 pub apart-places : {l : List ℕ} → NoRepeats l → (i j : ℕ) → i < length l → j < i → getD l j 0 ≡ getD l i 0 → ⊥
-apart-places NoRepeats.none i j inside less e = not-suc-le-zero inside
-apart-places (NoRepeats.more new apart) zero j inside less e = not-suc-le-zero less
-apart-places (NoRepeats.more {vs = vs} new apart) (suc i) zero inside less e = new (Memᴰ·cast e (member-at vs i (omega arith)))
-apart-places (NoRepeats.more new apart) (suc i) (suc j) inside less e = apart-places apart i j (omega arith) (omega arith) e
+apart-places once i j inside less e = omega (arith, one-place once j i (omega arith) inside e)
 
 -- v stands in the order before place i
 abbrev Earlier : List ℕ → ℕ → ℕ → Type 0

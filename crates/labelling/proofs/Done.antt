@@ -3,10 +3,12 @@
 use Prim.Native.Nat.{ℕ, zero, suc, _≤_, _<_}
 use native.Mathlib.Nat.{not-suc-le-zero}
 use native.Mathlib.Omega.{arith}
-use mathlib.Core.Path.{_≡_, sym, ap, subst}
+use mathlib.Core.Path.{sym, ap, subst}
 use mathlib.Core.Logic.{_⊎_, inl, inr, ⊎-elim}
-use mathlib.Core.List.{List, [], List·Memᴰ, List·Memᴰ·head, List·Memᴰ·tail}
+use mathlib.Core.List.{List, [], List·Memᴰ}
 use lib.ListN.{length, getD}
+use Rattle.storage.specs.Drawings.{Ordered}
+use Rattle.storage.proofs.Entries.{place-of}
 use Rattle.theory.specs.Net.{Net, Gate, Input}
 use Rattle.theory.specs.Sound.{Bounded, Ranked}
 use Rattle.theory.specs.Cover.{Label}
@@ -15,15 +17,10 @@ use Rattle.theory.proofs.Walks.{input-or-gate}
 use Rattle.theory.proofs.Rules.{peak-agrees}
 use Rattle.theory.proofs.Members.{greatest-at-most}
 use Rattle.theory.proofs.FlowMap.{labels-at-inputs, label-peaked}
-use Rattle.walking.specs.Arrays.{Ordered}
 use Rattle.area.proofs.Areas.{input-in-area}
-use Rattle.searching.specs.Searching.{TrueLabel}
+use Rattle.labelling.specs.Evidence.{TrueLabel}
 use Rattle.labelling.specs.Labelling.{LabelledTo}
 use Rattle.labelling.proofs.Along.{place-gate, true-label, true-labels, agree-behind}
-
-place-of : {v : ℕ} {l : List ℕ} → List·Memᴰ v l → (j : ℕ) × (j < length l) × (getD l j 0 ≡ v)
-place-of (List·Memᴰ·head e) = (0, omega arith, sym e)
-place-of (List·Memᴰ·tail m) = let (j, inside, e) = place-of m in (suc j, omega arith, e)
 
 module _ {net : Net} {k : ℕ} {order : List ℕ} {lab : ℕ → ℕ} {choice : ℕ → List ℕ} (ordered : Ordered net order)
     (done : LabelledTo net k order (length order) lab choice) where
@@ -32,10 +29,14 @@ module _ {net : Net} {k : ℕ} {order : List ℕ} {lab : ℕ → ℕ} {choice : 
     where
       by-kind : Input net v ⊎ Gate net v → TrueLabel net k v (lab v)
       by-kind (inl i) = λ outputs. subst (Label net k outputs v) (sym (done .inputs v i)) (Label.input i)
-      by-kind (inr g) = let (j, low, e) = place-of (ordered .all v g) in subst (λ (x : ℕ). TrueLabel net k x (lab x)) e (done .label j low)
+      by-kind (inr g) =
+          let p = place-of (ordered .all v g) in
+          subst (λ (x : ℕ). TrueLabel net k x (lab x)) (p .entry) (done .label (p .at) (p .inside))
 
   pub all-cuts : (v : ℕ) → Gate net v → MappersCut net k lab v (choice v)
-  all-cuts v g = let (j, low, e) = place-of (ordered .all v g) in subst (λ (x : ℕ). MappersCut net k lab x (choice x)) e (done .cut j low)
+  all-cuts v g =
+      let p = place-of (ordered .all v g) in
+      subst (λ (x : ℕ). MappersCut net k lab x (choice x)) (p .entry) (done .cut (p .at) (p .inside))
 
 -- How large labels grow
 
@@ -59,7 +60,8 @@ module _ {net : Net} {k : ℕ} {order : List ℕ} (bounded : Bounded net k) (ord
   true-low zero j enough inside = absurd (not-suc-le-zero enough)
   true-low (suc fuel) j enough inside =
       let low = true-peak-low j inside (λ h less. true-low fuel h (omega arith) (omega arith)) in
-      ⊎-elim (λ e. omega arith) (λ e. omega arith) (label-peaked bounded ranked (true-labels bounded ordered ranked []) (place-gate bounded ordered j inside))
+      ⊎-elim (λ e. omega arith) (λ e. omega arith)
+      (label-peaked bounded ranked (true-labels bounded ordered ranked []) (place-gate bounded ordered j inside))
 
   module _ {i : ℕ} {lab : ℕ → ℕ} {choice : ℕ → List ℕ} (so-far : LabelledTo net k order i lab choice) (inside : i < length order) where
     -- p of the gate whose turn it is

@@ -1,8 +1,10 @@
 pub mod Agreeing
 pub mod Along
 pub mod Done
-pub mod Places
-pub mod Stored
-pub mod One
-pub mod Turns
+pub mod Evidences
 pub mod Fanins
+pub mod One
+pub mod Owed
+pub mod Probes
+pub mod Stored
+pub mod Turns

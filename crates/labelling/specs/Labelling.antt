@@ -5,7 +5,7 @@ use mathlib.Core.List.{List}
 use lib.ListN.{getD}
 use Rattle.theory.specs.Net.{Net, Input}
 use Rattle.theory.specs.Evidence.{peak, Evidence, LeastCut, DistinctFanins, MappersCut}
-use Rattle.searching.specs.Searching.{TrueLabel}
+use Rattle.labelling.specs.Evidence.{TrueLabel}
 
 -- What is found at gate t, where `lab` has the labels behind t: "If p is 0 it is 1. Otherwise .. the label is p exactly when a cut of t exists
 -- with all leaves outside D", and evidence says that there is none.

@@ -1,60 +1,54 @@
--- Labels and cuts in arrays: a label a node, six places a node for its leaves, and how many of them are used.
+-- Labels and cuts in arrays: a label a node, and a list of leaves a node.
 use Prim.Native.Nat.{ℕ, suc, _+_, _*_, _≤_, _<_}
 use mathlib.Core.Path.{_≡_}
-use mathlib.Core.Bool.{true, false}
 use mathlib.Core.Logic.{_⊎_}
-use mathlib.Core.List.{List, List·Memᴰ}
-use lib.ListN.{length, getD, set, take, drop, replicate}
+use mathlib.Core.List.{List, _∷_, List·Memᴰ}
+use lib.ListN.{length, getD, set}
 use lib.Seq.{sets}
+use Rattle.storage.specs.Drawings.{netIn}
+use Rattle.storage.specs.Entries.{cleared, Beyond}
+use Rattle.storage.specs.Lists.{sizeAt, entryAt, listAt}
 use Rattle.theory.specs.Net.{Net, Gate, Input}
 use Rattle.theory.specs.Evidence.{DistinctFanins, MappersCut}
-use Rattle.drawing.specs.Table.{netIn}
 use Rattle.area.specs.Area.{labelIn}
-use Rattle.searching.specs.Searching.{TrueLabel}
+use Rattle.labelling.specs.Evidence.{TrueLabel}
 use Rattle.labelling.specs.declared.distinct.Least.{Least}
 use Rattle.labelling.specs.declared.distinct.Least.the-variants.{At, Nothing}
 use Rattle.labelling.specs.Labelling.{LabelledTo}
 
--- the cut that arrays hold for a node
-abbrev pub cutIn : (leaves sizes : List ℕ) → ℕ → List ℕ
-cutIn leaves sizes v = take (getD sizes v 0) (drop (6 * v) leaves)
-
 -- A node's label and its leaves are stored.
-pub record Stored (t label : ℕ) (cut labels leaves sizes labels′ leaves′ sizes′ : List ℕ) : Type 0 where
+pub record Stored (t label : ℕ) (cut labels cuts labels′ cuts′ : List ℕ) : Type 0 where
   pub label-stored : labels′ ≡ set labels t label
-  pub leaves-stored : leaves′ ≡ sets leaves (6 * t) cut
-  pub size-stored : sizes′ ≡ set sizes t (length cut)
+  pub cut-stored : cuts′ ≡ sets cuts (7 * t) (length cut ∷ cut)
 
 -- The arrays have room for the nodes' labels and cuts.
-pub record Room (nodes : ℕ) (labels leaves sizes : List ℕ) : Type 0 where
+pub record Room (nodes : ℕ) (labels cuts : List ℕ) : Type 0 where
   pub labels-long : nodes ≤ length labels
-  pub leaves-long : 6 * nodes ≤ length leaves
-  pub sizes-long : nodes ≤ length sizes
+  pub cuts-long : 7 * nodes ≤ length cuts
 
 -- What labelling leaves alone: the entries beyond the nodes, and the places that a node's cut does not use.
-pub record Rest (nodes : ℕ) (labels₀ leaves₀ sizes₀ labels leaves sizes : List ℕ) : Type 0 where
-  pub labels-beyond : drop nodes labels ≡ drop nodes labels₀
-  pub leaves-beyond : drop (6 * nodes) leaves ≡ drop (6 * nodes) leaves₀
-  pub sizes-beyond : drop nodes sizes ≡ drop nodes sizes₀
-  pub unused : (v i : ℕ) → v < nodes → i < 6 → getD sizes v 0 ≤ i → getD leaves (6 * v + i) 0 ≡ getD leaves₀ (6 * v + i) 0
+pub record Rest (nodes : ℕ) (labels₀ cuts₀ labels cuts : List ℕ) : Type 0 where
+  pub labels-beyond : Beyond nodes labels₀ labels
+  pub cuts-beyond : Beyond (7 * nodes) cuts₀ cuts
+  pub unused : (v i : ℕ) → v < nodes → i < 6 → sizeAt cuts v ≤ i → entryAt cuts v i ≡ entryAt cuts₀ v i
 
 -- After the first i gates of the order. Gates to come have no leaves yet.
-pub record Labelling (net : Net) (k : ℕ) (order : List ℕ) (i : ℕ) (labels₀ leaves₀ sizes₀ labels leaves sizes : List ℕ) : Type 0 where
-  pub room : Room (net .nodes) labels leaves sizes
-  pub labelled : LabelledTo net k order i (labelIn labels) (cutIn leaves sizes)
-  pub six : (v : ℕ) → v < net .nodes → getD sizes v 0 ≤ 6
-  pub inputs-none : (v : ℕ) → Input net v → getD sizes v 0 ≡ 0
-  pub to-come : (j : ℕ) → i ≤ j → j < length order → getD sizes (getD order j 0) 0 ≡ 0
-  pub rest : Rest (net .nodes) labels₀ leaves₀ sizes₀ labels leaves sizes
+pub record Labelling (net : Net) (k : ℕ) (order : List ℕ) (i : ℕ) (labels₀ cuts₀ labels cuts : List ℕ) : Type 0 where
+  pub room : Room (net .nodes) labels cuts
+  pub labelled : LabelledTo net k order i (labelIn labels) (listAt cuts)
+  pub six : (v : ℕ) → v < net .nodes → sizeAt cuts v ≤ 6
+  pub inputs-none : (v : ℕ) → Input net v → sizeAt cuts v ≡ 0
+  pub to-come : (j : ℕ) → i ≤ j → j < length order → sizeAt cuts (getD order j 0) ≡ 0
+  pub rest : Rest (net .nodes) labels₀ cuts₀ labels cuts
 
 -- Every gate has its label and the mapper's cut; an input has label 0 and no leaves.
-pub record LabellingMade (net : Net) (k : ℕ) (labels₀ leaves₀ sizes₀ labels leaves sizes : List ℕ) : Type 0 where
-  pub room : Room (net .nodes) labels leaves sizes
+pub record LabellingMade (net : Net) (k : ℕ) (labels₀ cuts₀ labels cuts : List ℕ) : Type 0 where
+  pub room : Room (net .nodes) labels cuts
   pub label : (v : ℕ) → v < net .nodes → TrueLabel net k v (getD labels v 0)
-  pub cut : (v : ℕ) → Gate net v → MappersCut net k (labelIn labels) v (cutIn leaves sizes v)
-  pub six : (v : ℕ) → v < net .nodes → getD sizes v 0 ≤ 6
-  pub inputs-none : (v : ℕ) → Input net v → getD sizes v 0 ≡ 0
-  pub rest : Rest (net .nodes) labels₀ leaves₀ sizes₀ labels leaves sizes
+  pub cut : (v : ℕ) → Gate net v → MappersCut net k (labelIn labels) v (listAt cuts v)
+  pub six : (v : ℕ) → v < net .nodes → sizeAt cuts v ≤ 6
+  pub inputs-none : (v : ℕ) → Input net v → sizeAt cuts v ≡ 0
+  pub rest : Rest (net .nodes) labels₀ cuts₀ labels cuts
 
 -- the least number of a list that is `from` or more
 pub data LeastFrom (l : List ℕ) (from : ℕ) : Least → Type 0 where
@@ -67,38 +61,42 @@ pub record Lowered (best from v r : ℕ) : Type 0 where
   pub taken : from ≤ v → r ≤ v
   pub one : (r ≡ best) ⊎ ((r ≡ v) × (from ≤ v))
 
--- A gate's fanins lie within the arrays.
-pub record FaninsRoom (fan count : List ℕ) (gate : ℕ) : Type 0 where
-  pub counted : gate < length count
-  pub six : getD count gate 0 ≤ 6
-  pub fan-long : 6 * gate + 6 ≤ length fan
+-- A gate's fanins lie within the array.
+pub record FaninsRoom (fanins : List ℕ) (gate : ℕ) : Type 0 where
+  pub long : 7 * gate + 7 ≤ length fanins
+  pub six : sizeAt fanins gate ≤ 6
 
--- "the distinct fanins of t" stand at the gate's places, and all else is as before.
-pub record DistinctStored (fan count : List ℕ) (gate : ℕ) (before : List ℕ) (size : ℕ) (after : List ℕ) : Type 0 where
+-- "the distinct fanins of t" are the gate's list, and all else is as before.
+pub record DistinctStored (fanins : List ℕ) (gate : ℕ) (before after : List ℕ) : Type 0 where
   pub cut : List ℕ
-  pub distinct : (inputs nodes : ℕ) → gate < nodes → DistinctFanins (netIn inputs nodes fan count) gate cut
-  pub count-said : size ≡ length cut
-  pub stored : after ≡ sets before (6 * gate) cut
+  pub distinct : (inputs nodes : ℕ) → gate < nodes → DistinctFanins (netIn inputs nodes fanins) gate cut
+  pub stored : after ≡ sets before (7 * gate) (length cut ∷ cut)
 
 -- the state before the first gate's turn
-pub record BeginRoom (inputs nodes : ℕ) (labels sizes : List ℕ) : Type 0 where
-  pub labels-long : inputs ≤ length labels
-  pub sizes-long : nodes ≤ length sizes
+pub record BeginRoom (inputs nodes : ℕ) (labels cuts : List ℕ) : Type 0 where
+  pub span : inputs ≤ nodes
+  pub small : nodes ≤ 32767
+  pub room : Room nodes labels cuts
 
-pub record Begun (inputs nodes : ℕ) (labels sizes labels′ sizes′ : List ℕ) : Type 0 where
-  pub labels-cleared : labels′ ≡ sets labels 0 (replicate inputs 0)
-  pub sizes-cleared : sizes′ ≡ sets sizes 0 (replicate nodes 0)
+-- The first lists have no ids, and all else is as before.
+pub record Emptied (many : ℕ) (cuts cuts′ : List ℕ) : Type 0 where
+  pub none : (v : ℕ) → v < many → sizeAt cuts′ v ≡ 0
+  pub kept : (v i : ℕ) → i < 6 → entryAt cuts′ v i ≡ entryAt cuts v i
+  pub rest : Beyond (7 * many) cuts cuts′
+
+pub record Begun (inputs nodes : ℕ) (labels cuts labels′ cuts′ : List ℕ) : Type 0 where
+  pub labels-cleared : labels′ ≡ cleared inputs labels
+  pub cuts-emptied : Emptied nodes cuts cuts′
 
 -- A gate can have p + 1 for its label, and its fanins for its cut.
-pub record AboveRoom (fan count : List ℕ) (gate p : ℕ) (labels leaves sizes : List ℕ) : Type 0 where
-  pub fanins-room : FaninsRoom fan count gate
+pub record AboveRoom (fanins : List ℕ) (gate p : ℕ) (labels cuts : List ℕ) : Type 0 where
+  pub fanins-room : FaninsRoom fanins gate
   pub labels-long : gate < length labels
-  pub leaves-long : 6 * gate + 6 ≤ length leaves
-  pub sizes-long : gate < length sizes
+  pub cuts-long : 7 * gate + 7 ≤ length cuts
   pub fits : suc p < 65536
 
 -- "If it is p + 1, the distinct fanins of t."
-pub record StoredAbove (fan count : List ℕ) (gate p : ℕ) (labels leaves sizes labels′ leaves′ sizes′ : List ℕ) : Type 0 where
+pub record StoredAbove (fanins : List ℕ) (gate p : ℕ) (labels cuts labels′ cuts′ : List ℕ) : Type 0 where
   pub cut : List ℕ
-  pub distinct : (inputs nodes : ℕ) → gate < nodes → DistinctFanins (netIn inputs nodes fan count) gate cut
-  pub stored : Stored gate (suc p) cut labels leaves sizes labels′ leaves′ sizes′
+  pub distinct : (inputs nodes : ℕ) → gate < nodes → DistinctFanins (netIn inputs nodes fanins) gate cut
+  pub stored : Stored gate (suc p) cut labels cuts labels′ cuts′

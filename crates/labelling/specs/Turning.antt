@@ -1,48 +1,52 @@
 -- A gate's turn along the order, and the turns of all gates.
-use Prim.Native.Nat.{ℕ, suc, _-_, _<_}
+use Prim.Native.Nat.{ℕ, suc, _*_, _-_, _≤_, _<_}
 use mathlib.Core.List.{List}
-use lib.ListN.{take}
+use lib.ListN.{length, take}
+use Rattle.storage.specs.Drawings.{netIn, Arranged}
+use Rattle.storage.specs.Entries.{Beyond}
 use Rattle.theory.specs.Net.{Net, Gate}
 use Rattle.theory.specs.Evidence.{peak, NeverFalls}
-use Rattle.drawing.specs.Table.{netIn}
 use Rattle.area.specs.Area.{labelIn}
-use Rattle.searching.specs.Searching.{DrawnOrdered, Scratch, ScratchLong}
-use Rattle.searching.specs.Probing.{Used}
 use Rattle.labelling.specs.Labelling.{Told}
 use Rattle.labelling.specs.Storing.{Stored, Room, Labelling}
 
 -- A gate t where the labels behind it never fall along fanins, and p + 1 fits.
-pub record TurnAsked (inputs nodes k : ℕ) (fan count order : List ℕ) (t : ℕ) (labels leaves sizes : List ℕ) (s : Scratch) : Type 0 where
-  pub drawing : DrawnOrdered inputs nodes k fan count order
-  pub gate : Gate (netIn inputs nodes fan count) t
-  pub never-falls : NeverFalls (netIn inputs nodes fan count) (labelIn labels) t
-  pub fits : suc (peak (netIn inputs nodes fan count) (labelIn labels) t) < 65536
-  pub room : Room nodes labels leaves sizes
-  pub scratch : ScratchLong nodes s
+pub record TurnAsked (inputs nodes k : ℕ) (fanins order : List ℕ) (t : ℕ) (labels cuts roles links : List ℕ) : Type 0 where
+  pub drawing : Arranged inputs nodes k fanins order
+  pub gate : Gate (netIn inputs nodes fanins) t
+  pub never-falls : NeverFalls (netIn inputs nodes fanins) (labelIn labels) t
+  pub fits : suc (peak (netIn inputs nodes fanins) (labelIn labels) t) < 65536
+  pub room : Room nodes labels cuts
+  pub roles-long : nodes ≤ length roles
+  pub links-long : 5 * nodes ≤ length links
 
 -- The gate's label and cut are told, and stored.
-pub record Settled (net : Net) (k t : ℕ) (labels leaves sizes labels′ leaves′ sizes′ : List ℕ) : Type 0 where
+pub record Settled (net : Net) (k t : ℕ) (labels cuts labels′ cuts′ : List ℕ) : Type 0 where
   pub label : ℕ
   pub cut : List ℕ
   pub told : Told net k (labelIn labels) t label cut
-  pub stored : Stored t label cut labels leaves sizes labels′ leaves′ sizes′
+  pub stored : Stored t label cut labels cuts labels′ cuts′
 
-pub record TurnTaken (inputs nodes k : ℕ) (fan count : List ℕ) (t : ℕ) (labels leaves sizes : List ℕ) (s : Scratch) (labels′ leaves′ sizes′ : List ℕ) (s′ : Scratch) : Type 0 where
-  pub settled : Settled (netIn inputs nodes fan count) k t labels leaves sizes labels′ leaves′ sizes′
-  pub used : Used nodes s s′
+pub record TurnTaken (inputs nodes k : ℕ) (fanins : List ℕ) (t : ℕ)
+    (labels cuts roles links labels′ cuts′ roles′ links′ : List ℕ) : Type 0 where
+  pub settled : Settled (netIn inputs nodes fanins) k t labels cuts labels′ cuts′
+  pub roles-used : Beyond nodes roles roles′
+  pub links-used : Beyond (5 * nodes) links links′
 
 -- Before the first gate's turn, whatever the arrays held when labelling began.
-pub record AlongAsked (inputs nodes k : ℕ) (fan count order labels leaves sizes : List ℕ) (s : Scratch) : Type 0 where
-  pub drawing : DrawnOrdered inputs nodes k fan count order
-  pub scratch : ScratchLong nodes s
+pub record AlongAsked (inputs nodes k : ℕ) (fanins order labels cuts roles links : List ℕ) : Type 0 where
+  pub drawing : Arranged inputs nodes k fanins order
   pub labels₀ : List ℕ
-  pub leaves₀ : List ℕ
-  pub sizes₀ : List ℕ
-  pub begun : Labelling (netIn inputs nodes fan count) k (take (nodes - inputs) order) 0 labels₀ leaves₀ sizes₀ labels leaves sizes
+  pub cuts₀ : List ℕ
+  pub begun : Labelling (netIn inputs nodes fanins) k (take (nodes - inputs) order) 0 labels₀ cuts₀ labels cuts
+  pub roles-long : nodes ≤ length roles
+  pub links-long : 5 * nodes ≤ length links
 
 -- After the first i gates' turns.
-pub record Along (inputs nodes k : ℕ) (fan count order : List ℕ) (i : ℕ) (labels leaves sizes : List ℕ) (s : Scratch) (labels′ leaves′ sizes′ : List ℕ) (s′ : Scratch) : Type 0 where
-  pub labelling : (labels₀ leaves₀ sizes₀ : List ℕ) →
-      Labelling (netIn inputs nodes fan count) k (take (nodes - inputs) order) 0 labels₀ leaves₀ sizes₀ labels leaves sizes →
-      Labelling (netIn inputs nodes fan count) k (take (nodes - inputs) order) i labels₀ leaves₀ sizes₀ labels′ leaves′ sizes′
-  pub used : Used nodes s s′
+pub record Along (inputs nodes k : ℕ) (fanins order : List ℕ) (i : ℕ)
+    (labels cuts roles links labels′ cuts′ roles′ links′ : List ℕ) : Type 0 where
+  pub labelling : (labels₀ cuts₀ : List ℕ) →
+      Labelling (netIn inputs nodes fanins) k (take (nodes - inputs) order) 0 labels₀ cuts₀ labels cuts →
+      Labelling (netIn inputs nodes fanins) k (take (nodes - inputs) order) i labels₀ cuts₀ labels′ cuts′
+  pub roles-used : Beyond nodes roles roles′
+  pub links-used : Beyond (5 * nodes) links links′

@@ -21,13 +21,12 @@ p1 =
       outputs = record { node = 6; depth = 2 } ∷ [];
     }
 
--- P1's mapping as arrays hold it: labels, six places a node for leaves, sizes, marks, tables, outputs
+-- P1's mapping as arrays hold it: labels, cuts, marks, tables, outputs
 p1-in-arrays :
     mappingIn 3 4 7
     (arraysOf
     (0 ∷ 0 ∷ 0 ∷ 0 ∷ 1 ∷ 1 ∷ 2 ∷ [])
-    (replicate 24 0 ++ (0 ∷ 1 ∷ 0 ∷ 0 ∷ 0 ∷ 0 ∷ 2 ∷ 3 ∷ 0 ∷ 0 ∷ 0 ∷ 0 ∷ 4 ∷ 5 ∷ 0 ∷ 0 ∷ 0 ∷ 0 ∷ []))
-    (0 ∷ 0 ∷ 0 ∷ 0 ∷ 2 ∷ 2 ∷ 2 ∷ [])
+    (replicate 28 0 ++ (2 ∷ 0 ∷ 1 ∷ 0 ∷ 0 ∷ 0 ∷ 0 ∷ 2 ∷ 2 ∷ 3 ∷ 0 ∷ 0 ∷ 0 ∷ 0 ∷ 2 ∷ 4 ∷ 5 ∷ 0 ∷ 0 ∷ 0 ∷ 0 ∷ []))
     (0 ∷ 0 ∷ 0 ∷ 0 ∷ 1 ∷ 1 ∷ 1 ∷ [])
     (0 ∷ 0 ∷ 0 ∷ 0 ∷ 0x8 ∷ 0x8 ∷ 0xE ∷ [])
     (6 ∷ []))

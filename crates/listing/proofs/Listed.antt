@@ -9,6 +9,7 @@ use lib.ListN.{length, getD, take, drop, length-take, drop-of-length-le}
 use lib.Seq.{length-take-le, getD-take}
 use Rattle.listing.specs.Text.{each, headLine, lutLine, outputLine, listingOf}
 use Rattle.listing.specs.Puts.{Put}
+use Rattle.storage.specs.Lists.{sizeAt}
 use Rattle.listing.specs.Arrays.{Arrays, lutAt, outputAt, lutsIn, outputsIn, mappingIn, lutText, outputText, marked, markedFrom}
 use Rattle.listing.proofs.Puts.{rest-more, Left, left-room, left-turn, left-end}
 
@@ -55,7 +56,9 @@ unfolding each
 marked-other print v mark e = rw (ne-eqb mark 1 e)
 
 -- Of marks, from node v on.
-module _ (print : ℕ → List ℕ) (marks : List ℕ) (nodes : ℕ) (fits : nodes ≤ length marks) {t₀ : List ℕ} {at₀ : ℕ} {all t : List ℕ} {at v : ℕ} (left : Left t₀ at₀ all t at (each print (markedFrom v (drop v (take nodes marks))))) where
+module _ (print : ℕ → List ℕ) (marks : List ℕ) (nodes : ℕ) (fits : nodes ≤ length marks) {t₀ : List ℕ} {at₀ : ℕ}
+    {all t : List ℕ} {at v : ℕ}
+    (left : Left t₀ at₀ all t at (each print (markedFrom v (drop v (take nodes marks))))) where
   module _ (more : v < nodes) where
     marks-more : each print (markedFrom v (drop v (take nodes marks))) ≡ each print (marked v (getD marks v 0)) ++ each print (markedFrom (v + 1) (drop (v + 1) (take nodes marks)))
     unfolding markedFrom
@@ -77,27 +80,35 @@ module _ (print : ℕ → List ℕ) (marks : List ℕ) (nodes : ℕ) (fits : nod
   unfolding each markedFrom
   marks-end h = left-end left (ap (λ (l : List ℕ). each print (markedFrom v l)) (drop-of-length-le (take nodes marks) (part-passed marks nodes v h)))
 
--- the leaves as the part of the array that is lent
+-- the label and the size as they were read, and the leaves as the part of the array that is lent
 pub lut-part :
-    (labels leaves sizes tables : List ℕ) (v : ℕ) →
-    lutText labels leaves sizes tables v
-    ≡ lutLine (record { root = v; depth = getD labels v 0; leaves = take ((6 * v + getD sizes v 0) - 6 * v) (drop (6 * v) leaves); table = getD tables v 0 })
+    (labels cuts tables : List ℕ) (v : ℕ) {depth size : ℕ} → depth ≡ getD labels v 0 → size ≡ sizeAt cuts v →
+    lutText labels cuts tables v
+    ≡ lutLine (record { root = v; depth = depth; leaves = take ((7 * v + 1 + size) - (7 * v + 1)) (drop (7 * v + 1) cuts); table = getD tables v 0 })
 unfolding lutText lutAt
-lut-part labels leaves sizes tables v =
-    let size : getD sizes v 0 ≡ (6 * v + getD sizes v 0) - 6 * v = omega arith in
-    ap (λ (n : ℕ). lutLine (record { root = v; depth = getD labels v 0; leaves = take n (drop (6 * v) leaves); table = getD tables v 0 })) size
+lut-part labels cuts tables v {depth} {size} deep many =
+    let whole : sizeAt cuts v ≡ (7 * v + 1 + size) - (7 * v + 1) = omega arith in
+    ap (λ (n : ℕ). lutLine (record { root = v; depth = getD labels v 0; leaves = take n (drop (7 * v + 1) cuts); table = getD tables v 0 })) whole
+    ∙ ap
+    (λ (d : ℕ).
+    lutLine (record { root = v; depth = d; leaves = take ((7 * v + 1 + size) - (7 * v + 1)) (drop (7 * v + 1) cuts); table = getD tables v 0 }))
+    (sym deep)
+
+pub output-part : (labels : List ℕ) (v : ℕ) {depth : ℕ} → depth ≡ getD labels v 0 → outputText labels v ≡ outputLine (record { node = v; depth = depth })
+unfolding outputText outputAt
+output-part labels v deep = ap (λ (d : ℕ). outputLine (record { node = v; depth = d })) (sym deep)
 
 -- a listing's text from arrays: the head, the roots' lines and the outputs' lines
 pub listing-parts :
     (k inputs nodes : ℕ) (a : Arrays) (number depth : ℕ) {luts : ℕ} → luts ≡ length (lutsIn a nodes) →
     listingOf (mappingIn k inputs nodes a number depth)
     ≡ headLine k inputs (nodes - inputs) luts depth
-    ++ each (lutText (a .labels) (a .leaves) (a .sizes) (a .tables)) (markedFrom 0 (take nodes (a .roots)))
+    ++ each (lutText (a .labels) (a .cuts) (a .tables)) (markedFrom 0 (take nodes (a .luts)))
     ++ each (outputText (a .labels)) (take number (a .outputs))
 unfolding listingOf lutText outputText
 listing-parts k inputs nodes a number depth {luts} count =
     ap (λ (n : ℕ). headLine k inputs (nodes - inputs) n depth ++ each lutLine (lutsIn a nodes) ++ each outputLine (outputsIn a number)) (sym count)
     ∙ ap (λ (t : List ℕ). headLine k inputs (nodes - inputs) luts depth ++ t ++ each outputLine (outputsIn a number))
-    (each-map lutLine (lutAt (a .labels) (a .leaves) (a .sizes) (a .tables)) (markedFrom 0 (take nodes (a .roots))))
-    ∙ ap (λ (t : List ℕ). headLine k inputs (nodes - inputs) luts depth ++ each (lutText (a .labels) (a .leaves) (a .sizes) (a .tables)) (markedFrom 0 (take nodes (a .roots))) ++ t)
+    (each-map lutLine (lutAt (a .labels) (a .cuts) (a .tables)) (markedFrom 0 (take nodes (a .luts))))
+    ∙ ap (λ (t : List ℕ). headLine k inputs (nodes - inputs) luts depth ++ each (lutText (a .labels) (a .cuts) (a .tables)) (markedFrom 0 (take nodes (a .luts))) ++ t)
     (each-map outputLine (outputAt (a .labels)) (take number (a .outputs)))

@@ -10,6 +10,7 @@ use lib.Dec.{eqb}
 use lib.ListN.{length, getD, take, drop, length-append, length-take}
 use lib.Seq.{getD-take, getD-drop}
 use Rattle.listing.specs.Text.{bytes, decimal, numbered, each, leafText, headLine, lutLine, outputLine, refusedLine, acceptedLine}
+use Rattle.storage.specs.Lists.{sizeAt}
 use Rattle.listing.specs.Arrays.{Arrays, lutAt, outputAt, lutText, outputText, markedFrom, Held, room}
 use Rattle.listing.proofs.Numbers.{places-most, decimal-size, hex16-size}
 
@@ -75,7 +76,7 @@ head-room k inputs gates luts depth hk hi hg hl hd =
 -- The entries of the arrays fit 16 bits.
 pub record Small (a : Arrays) : Type 0 where
   pub labels : (i : ℕ) → getD (a .labels) i 0 < 65536
-  pub leaves : (i : ℕ) → getD (a .leaves) i 0 < 65536
+  pub cuts : (i : ℕ) → getD (a .cuts) i 0 < 65536
   pub outputs : (i : ℕ) → getD (a .outputs) i 0 < 65536
 
 leaf-room : (v : ℕ) → v < 65536 → length (leafText v) ≤ 6
@@ -83,14 +84,14 @@ unfolding leafText
 leaf-room v h = named-most (bytes " ") 4 v (omega arith)
 
 module _ (a : Arrays) (small : Small a) where
-  leaves-room : (first size : ℕ) → size ≤ 6 → length (each leafText (take size (drop first (a .leaves)))) ≤ 36
+  leaves-room : (first size : ℕ) → size ≤ 6 → length (each leafText (take size (drop first (a .cuts)))) ≤ 36
   leaves-room first size six =
-      let long : length (take size (drop first (a .leaves))) ≤ size = simp length-take (omega arith) in
-      let part : (i : ℕ) → i < length (take size (drop first (a .leaves))) → length (leafText (getD (take size (drop first (a .leaves))) i 0)) ≤ 6
-      = λ i h. rw (getD-take size (drop first (a .leaves)) i 0 (omega arith), getD-drop) (leaf-room (getD (a .leaves) (first + i) 0) (small .leaves (first + i))) in
-      omega (arith, each-long leafText 6 (take size (drop first (a .leaves))) part)
+      let long : length (take size (drop first (a .cuts))) ≤ size = simp length-take (omega arith) in
+      let part : (i : ℕ) → i < length (take size (drop first (a .cuts))) → length (leafText (getD (take size (drop first (a .cuts))) i 0)) ≤ 6
+      = λ i h. rw (getD-take size (drop first (a .cuts)) i 0 (omega arith), getD-drop) (leaf-room (getD (a .cuts) (first + i) 0) (small .cuts (first + i))) in
+      omega (arith, each-long leafText 6 (take size (drop first (a .cuts))) part)
 
-  lut-room : (v : ℕ) → v < 65536 → getD (a .sizes) v 0 ≤ 6 → length (lutText (a .labels) (a .leaves) (a .sizes) (a .tables) v) ≤ 88
+  lut-room : (v : ℕ) → v < 65536 → sizeAt (a .cuts) v ≤ 6 → length (lutText (a .labels) (a .cuts) (a .tables) v) ≤ 88
   unfolding lutText lutAt lutLine
   lut-room v h six =
       simp length-append
@@ -98,7 +99,7 @@ module _ (a : Arrays) (small : Small a) where
         arith,
         named-most (bytes "lut ") 4 v (omega arith),
         named-most (bytes " depth ") 4 (getD (a .labels) v 0) (omega (arith, small .labels v)),
-        leaves-room (6 * v) (getD (a .sizes) v 0) six,
+        leaves-room (7 * v + 1) (sizeAt (a .cuts) v) six,
         hex16-size (getD (a .tables) v 0),
       ))
 
@@ -108,14 +109,14 @@ module _ (a : Arrays) (small : Small a) where
       simp length-append
       (omega (arith, named-most (bytes "output ") 4 v (omega arith), named-most (bytes " depth ") 4 (getD (a .labels) v 0) (omega (arith, small .labels v))))
 
-  luts-room : (nodes : ℕ) → nodes ≤ 65536 → ((v : ℕ) → v < nodes → getD (a .roots) v 0 ≡ 1 → getD (a .sizes) v 0 ≤ 6) →
-      length (each (lutText (a .labels) (a .leaves) (a .sizes) (a .tables)) (markedFrom 0 (take nodes (a .roots)))) ≤ 88 * nodes
+  luts-room : (nodes : ℕ) → nodes ≤ 32767 → ((v : ℕ) → v < nodes → getD (a .luts) v 0 ≡ 1 → sizeAt (a .cuts) v ≤ 6) →
+      length (each (lutText (a .labels) (a .cuts) (a .tables)) (markedFrom 0 (take nodes (a .luts)))) ≤ 88 * nodes
   luts-room nodes ids six =
-      let long : length (take nodes (a .roots)) ≤ nodes = simp length-take (omega arith) in
+      let long : length (take nodes (a .luts)) ≤ nodes = simp length-take (omega arith) in
       omega (
         arith,
-        marks-long (lutText (a .labels) (a .leaves) (a .sizes) (a .tables)) 88 (take nodes (a .roots)) 0
-            (λ i v e h one. lut-room v (omega arith) (six v (omega arith) (ap (λ (u : ℕ). getD (a .roots) u 0) (omega arith) ∙ sym (getD-take nodes (a .roots) i 0 (omega arith)) ∙ one))),
+        marks-long (lutText (a .labels) (a .cuts) (a .tables)) 88 (take nodes (a .luts)) 0
+            (λ i v e h one. lut-room v (omega arith) (six v (omega arith) (ap (λ (u : ℕ). getD (a .luts) u 0) (omega arith) ∙ sym (getD-take nodes (a .luts) i 0 (omega arith)) ∙ one))),
       )
 
   outputs-room : (number : ℕ) → length (each (outputText (a .labels)) (take number (a .outputs))) ≤ 25 * number
@@ -130,7 +131,7 @@ module _ (a : Arrays) (small : Small a) where
       (k inputs nodes number luts depth : ℕ) → Held inputs nodes a number → k < 256 → luts < 2 ^ 64 → depth < 65536 →
       length
       (headLine k inputs (nodes - inputs) luts depth
-      ++ each (lutText (a .labels) (a .leaves) (a .sizes) (a .tables)) (markedFrom 0 (take nodes (a .roots)))
+      ++ each (lutText (a .labels) (a .cuts) (a .tables)) (markedFrom 0 (take nodes (a .luts)))
       ++ each (outputText (a .labels)) (take number (a .outputs)))
       ≤ room nodes number
   listing-room k inputs nodes number luts depth held few count shallow =
@@ -138,6 +139,6 @@ module _ (a : Arrays) (small : Small a) where
       (omega (
         arith,
         head-room k inputs (nodes - inputs) luts depth few (omega arith) (omega arith) count shallow,
-        luts-room nodes (held .ids) (held .six),
+        luts-room nodes (held .small) (held .six),
         outputs-room number,
       ))

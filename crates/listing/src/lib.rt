@@ -7,44 +7,42 @@ use crate::lines::put_luts;
 use crate::lines::put_outputs;
 use crate::words::end_line;
 use crate::words::put_named;
-use drawing::CutSize;
-use drawing::Label;
+use storage::Label;
+use storage::Numbers;
 ghost use mathlib.Core.Path.{_≡_};
 ghost use Prim.Native.Nat.{_≤_};
 ghost use lib.ListN.{length};
 ghost use Rattle.listing.specs.Text.{listingOf, refusedLine, acceptedLine};
 ghost use Rattle.listing.specs.Puts.{Wrote};
-ghost use Rattle.listing.specs.Arrays.{arraysOf, mappingIn, lutsIn, Held, room};
+ghost use Rattle.listing.specs.Arrays.{arraysOf, mappingIn, lutsIn, Held, room, lineRoom, acceptedRoom};
 
-// The lister's text of the mapping that the arrays hold: a LUT for each node with the mark 1, `luts` of them, and the outputs in file order.
+// The lister's text of the mapping that the arrays hold: a LUT for each node with the mark 1, `many` of them, and the outputs in file order.
 pub fn list_mapping(
-    k: CutSize,
-    inputs: usize,
-    nodes: usize,
+    numbers: Numbers,
     labels: &[u16],
-    leaves: &[u16],
-    sizes: &[u8],
-    roots: &[u8],
+    cuts: &[u16],
+    luts: &[u8],
     tables: &[u64],
     outputs: &[u16],
-    number: usize,
-    luts: usize,
+    many: usize,
     depth: Label,
     text: &mut [u8],
 ) -> usize
-    requires { ⌜ Held inputs nodes (arraysOf (now labels) (now leaves) (now sizes) (now roots) (now tables) (now outputs)) number ⌝ }
-    requires { ⌜ luts ≡ length (lutsIn (arraysOf (now labels) (now leaves) (now sizes) (now roots) (now tables) (now outputs)) nodes) ⌝ }
-    requires { ⌜ room nodes number ≤ length (now text) ⌝ }
-    ensures { λ r. ⌜ Wrote (now (text .entry)) (listingOf (mappingIn (k .leaves) inputs nodes (arraysOf (now (labels .entry)) (now (leaves .entry)) (now (sizes .entry)) (now (roots .entry)) (now (tables .entry)) (now (outputs .entry))) number (depth .depth))) r (now (text .exit)) ⌝ }
+    requires { ⌜ Held (numbers .inputs) (numbers .nodes) (arraysOf (now labels) (now cuts) (now luts) (now tables) (now outputs)) (numbers .roots) ⌝ }
+    requires { ⌜ many ≡ length (lutsIn (arraysOf (now labels) (now cuts) (now luts) (now tables) (now outputs)) (numbers .nodes)) ⌝ }
+    requires { ⌜ room (numbers .nodes) (numbers .roots) ≤ length (now text) ⌝ }
+    ensures { λ r. ⌜ Wrote (now (text .entry)) (listingOf (mappingIn (numbers .k .leaves) (numbers .inputs) (numbers .nodes) (arraysOf (now (labels .entry)) (now (cuts .entry)) (now (luts .entry)) (now (tables .entry)) (now (outputs .entry))) (numbers .roots) (depth .depth))) r (now (text .exit)) ⌝ }
 {
-    let at = put_head(k, inputs, nodes - inputs, luts, depth, text);
-    let at = put_luts(nodes, labels, leaves, sizes, roots, tables, text, at);
-    put_outputs(labels, outputs, number, text, at)
+    let nodes = numbers.nodes;
+    let inputs = numbers.inputs;
+    let at = put_head(numbers.k, inputs, nodes - inputs, many, depth, text);
+    let at = put_luts(nodes, labels, cuts, luts, tables, text, at);
+    put_outputs(labels, outputs, numbers.roots, text, at)
 }
 
 // The one line of a refusal, in two numbers of up to 20 digits.
 pub fn write_refused(number: u64, place: u64, text: &mut [u8]) -> usize
-    requires { ⌜ 53 ≤ length (now text) ⌝ }
+    requires { ⌜ lineRoom ≤ length (now text) ⌝ }
     ensures { λ r. ⌜ Wrote (now (text .entry)) (refusedLine number place) r (now (text .exit)) ⌝ }
 {
     let at = put_named(b"refused ", number, text, 0);
@@ -54,7 +52,7 @@ pub fn write_refused(number: u64, place: u64, text: &mut [u8]) -> usize
 
 // The inspector's one line for a sheet that it takes.
 pub fn write_accepted(depth: Label, text: &mut [u8]) -> usize
-    requires { ⌜ 21 ≤ length (now text) ⌝ }
+    requires { ⌜ acceptedRoom ≤ length (now text) ⌝ }
     ensures { λ r. ⌜ Wrote (now (text .entry)) (acceptedLine (depth .depth)) r (now (text .exit)) ⌝ }
 {
     let at = put_named(b"accepted depth ", depth.depth as u64, text, 0);

@@ -3,9 +3,12 @@ use crate::words::end_line;
 use crate::words::put_hex16;
 use crate::words::put_named;
 use crate::words::put_word;
-use drawing::CutSize;
-use drawing::Label;
-use drawing::Node;
+use storage::CutSize;
+use storage::Label;
+use storage::Node;
+use storage::lists::PLACES;
+use storage::lists::size_at;
+use storage::marks::label_of;
 ghost use mathlib.Core.Path.{_≡_};
 ghost use Prim.Native.Nat.{ℕ, _+_, _≤_, _<_};
 ghost use lib.ListN.{length, getD, take};
@@ -86,21 +89,20 @@ fn put_output_line(node: Node, depth: Label, text: &mut [u8], at: usize) -> usiz
 fn put_lut(
     root: Node,
     labels: &[u16],
-    leaves: &[u16],
-    sizes: &[u8],
+    cuts: &[u16],
     tables: &[u64],
     text: &mut [u8],
     at: usize,
 ) -> usize
-    requires { ⌜ LutHeld (now labels) (now leaves) (now sizes) (now tables) (root .id) ⌝ }
-    requires { ⌜ at + length (lutText (now labels) (now leaves) (now sizes) (now tables) (root .id)) ≤ length (now text) ⌝ }
-    ensures { λ r. ⌜ Put (now (text .entry)) at (lutText (now (labels .entry)) (now (leaves .entry)) (now (sizes .entry)) (now (tables .entry)) (root .id)) r (now (text .exit)) ⌝ }
+    requires { ⌜ LutHeld (now labels) (now cuts) (now tables) (root .id) ⌝ }
+    requires { ⌜ at + length (lutText (now labels) (now cuts) (now tables) (root .id)) ≤ length (now text) ⌝ }
+    ensures { λ r. ⌜ Put (now (text .entry)) at (lutText (now (labels .entry)) (now (cuts .entry)) (now (tables .entry)) (root .id)) r (now (text .exit)) ⌝ }
 {
     let v = root.id as usize;
-    let first = 6 * v;
-    let end = first + sizes[v] as usize;
-    let depth = Label { depth: labels[v] };
-    put_lut_line(root, depth, &leaves[first..end], tables[v], text, at)
+    let first = PLACES * v + 1;
+    let end = first + size_at(cuts, root);
+    let depth = label_of(labels, root);
+    put_lut_line(root, depth, &cuts[first..end], tables[v], text, at)
 }
 
 // The node's line, if it is a root.
@@ -108,18 +110,17 @@ fn put_marked(
     node: Node,
     mark: u8,
     labels: &[u16],
-    leaves: &[u16],
-    sizes: &[u8],
+    cuts: &[u16],
     tables: &[u64],
     text: &mut [u8],
     at: usize,
 ) -> usize
-    requires { ⌜ (mark ≡ 1 → LutHeld (now labels) (now leaves) (now sizes) (now tables) (node .id)) ⌝ }
-    requires { ⌜ at + length (each (lutText (now labels) (now leaves) (now sizes) (now tables)) (marked (node .id) mark)) ≤ length (now text) ⌝ }
-    ensures { λ r. ⌜ Put (now (text .entry)) at (each (lutText (now (labels .entry)) (now (leaves .entry)) (now (sizes .entry)) (now (tables .entry))) (marked (node .id) mark)) r (now (text .exit)) ⌝ }
+    requires { ⌜ (mark ≡ 1 → LutHeld (now labels) (now cuts) (now tables) (node .id)) ⌝ }
+    requires { ⌜ at + length (each (lutText (now labels) (now cuts) (now tables)) (marked (node .id) mark)) ≤ length (now text) ⌝ }
+    ensures { λ r. ⌜ Put (now (text .entry)) at (each (lutText (now (labels .entry)) (now (cuts .entry)) (now (tables .entry))) (marked (node .id) mark)) r (now (text .exit)) ⌝ }
 {
     if mark == 1 {
-        put_lut(node, labels, leaves, sizes, tables, text, at)
+        put_lut(node, labels, cuts, tables, text, at)
     } else {
         at
     }
@@ -129,23 +130,22 @@ fn put_marked(
 pub fn put_luts(
     nodes: usize,
     labels: &[u16],
-    leaves: &[u16],
-    sizes: &[u8],
-    roots: &[u8],
+    cuts: &[u16],
+    luts: &[u8],
     tables: &[u64],
     text: &mut [u8],
     at: usize,
 ) -> usize
-    requires { ⌜ (nodes ≤ 65536) × (nodes ≤ length (now roots)) ⌝ }
-    requires { ⌜ ((v : ℕ) → v < nodes → getD (now roots) v 0 ≡ 1 → LutHeld (now labels) (now leaves) (now sizes) (now tables) v) ⌝ }
-    requires { ⌜ at + length (each (lutText (now labels) (now leaves) (now sizes) (now tables)) (markedFrom 0 (take nodes (now roots)))) ≤ length (now text) ⌝ }
-    ensures { λ r. ⌜ Put (now (text .entry)) at (each (lutText (now (labels .entry)) (now (leaves .entry)) (now (sizes .entry)) (now (tables .entry))) (markedFrom 0 (take nodes (now (roots .entry))))) r (now (text .exit)) ⌝ }
+    requires { ⌜ (nodes ≤ 32767) × (nodes ≤ length (now luts)) ⌝ }
+    requires { ⌜ ((v : ℕ) → v < nodes → getD (now luts) v 0 ≡ 1 → LutHeld (now labels) (now cuts) (now tables) v) ⌝ }
+    requires { ⌜ at + length (each (lutText (now labels) (now cuts) (now tables)) (markedFrom 0 (take nodes (now luts)))) ≤ length (now text) ⌝ }
+    ensures { λ r. ⌜ Put (now (text .entry)) at (each (lutText (now (labels .entry)) (now (cuts .entry)) (now (tables .entry))) (markedFrom 0 (take nodes (now (luts .entry))))) r (now (text .exit)) ⌝ }
 {
     let mut next = at;
     let mut v = 0;
     while v < nodes {
         let node = Node { id: v as u16 };
-        next = put_marked(node, roots[v], labels, leaves, sizes, tables, text, next);
+        next = put_marked(node, luts[v], labels, cuts, tables, text, next);
         v += 1;
     }
     next
@@ -156,8 +156,7 @@ fn put_output(node: Node, labels: &[u16], text: &mut [u8], at: usize) -> usize
     requires { ⌜ at + length (outputText (now labels) (node .id)) ≤ length (now text) ⌝ }
     ensures { λ r. ⌜ Put (now (text .entry)) at (outputText (now (labels .entry)) (node .id)) r (now (text .exit)) ⌝ }
 {
-    let v = node.id as usize;
-    let depth = Label { depth: labels[v] };
+    let depth = label_of(labels, node);
     put_output_line(node, depth, text, at)
 }
 

@@ -1,3 +1,7 @@
+pub mod PathsWritten
+pub mod LutsWritten
+pub mod LinesWritten
+pub mod SheetsWritten
 pub mod SheetsMade
 pub mod DrawingsMapped
 pub mod Mapped

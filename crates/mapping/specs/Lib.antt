@@ -1,2 +1,5 @@
-pub mod Sheets
+pub mod Luts
+pub mod Lines
+pub mod WholeSheets
 pub mod Maps
+pub mod Sheets

@@ -1,128 +1,132 @@
 -- Tables stored node by node: a root's is its cone's, any other's is 0.
-use Prim.Native.Nat.{ℕ, _+_, _*_, _-_, _≤_, _<_}
+use Prim.Native.Nat.{ℕ, _+_, _*_, _≤_, _<_}
 use native.Mathlib.Decide.{ℕ-discrete}
+use native.Mathlib.Nat.{zero-mul}
 use native.Mathlib.Omega.{arith}
-use mathlib.Core.Path.{_≡_, refl, sym, subst, _∙_}
-use mathlib.Core.List.{List}
-use lib.ListN.{length, getD, take, drop, set, length-set, length-take, length-drop}
-use lib.Seq.{take-take, getD-set-same, getD-set-other}
+use mathlib.Core.Path.{_≡_, refl, ap, sym, subst, _∙_}
+use mathlib.Core.List.{List, _++_}
+use lib.ListN.{length, getD, take, drop, set, replicate, length-set, length-replicate, take-append-drop}
+use lib.Seq.{take-at, drop-set-lt, getD-set-same, getD-set-other}
+use Rattle.storage.specs.Entries.{cleared, Beyond}
+use Rattle.storage.specs.Lists.{sizeAt}
+use Rattle.storage.specs.Columns.{column}
+use Rattle.storage.specs.Drawings.{netIn, tablesIn}
+use Rattle.storage.proofs.Clears.{cleared-size, filled-beyond, beyond-same, beyond-then}
+use Rattle.storage.proofs.InColumns.{column-size, column-set, column-before}
 use Rattle.theory.specs.Walk.{Cut}
 use Rattle.theory.specs.Lookup.{ConeTable}
-use Rattle.drawing.specs.Table.{netIn, tablesIn}
-use Rattle.labelling.specs.Storing.{cutIn}
-use Rattle.covering.specs.Scratch.{Cleared}
 use Rattle.covering.specs.Cones.{ConeAsked, ConeAnswered}
-use Rattle.packing.specs.Tables.{TablesFrom, TableAsked, TableIs, TableAnswered, TablesAsked, TablesMade}
+use Rattle.covering.proofs.Leaves.{leavesFrom, leaves-cut, leaves-room}
+use Rattle.packing.specs.Tables.{valuesOf, tablesOf, TableAsked, TableIs, TableAnswered, TablesAsked, TablesMade}
 
-cleared-then : {nodes : ℕ} {before middle after : List ℕ} → Cleared nodes before middle → Cleared nodes middle after → Cleared nodes before after
-cleared-then a b =
-    record { long = b .long ∙ a .long; zero = b .zero; beyond = λ v high. b .beyond v high ∙ a .beyond v high }
+-- The first column, cleared
 
-module _ {inputs nodes : ℕ} {fan count rows order : List ℕ} {v : ℕ} {leaves sizes roots : List ℕ} {room : ℕ}
-    (asked : TableAsked inputs nodes fan count rows order v leaves sizes roots room) where
-  -- the leaves from the gate's places on
-  tail : List ℕ
-  tail = take (length leaves - 6 * v) (drop (6 * v) leaves)
+first-column : (n : ℕ) (l : List ℕ) → column n 0 l ≡ take n l
+unfolding column
+first-column n l = ap (λ (k : ℕ). take n (drop k l)) (zero-mul n)
 
-  tail-cut : take (getD sizes v 0) tail ≡ cutIn leaves sizes v
-  unfolding tail
-  tail-cut =
-      take-take (getD sizes v 0) (length leaves - 6 * v) (drop (6 * v) leaves)
-      (omega (arith, asked .arrays .leaves-long, asked .low, asked .arrays .six v (asked .low)))
+column-cleared : (n : ℕ) (l : List ℕ) → column n 0 (cleared n l) ≡ replicate n 0
+column-cleared n l = first-column n (cleared n l) ∙ take-at (replicate n 0) (drop n l) n (length-replicate n 0)
 
-  pub cone-asked : getD roots v 0 ≡ 1 →
-      ConeAsked inputs nodes fan count rows order v (take (length leaves - 6 * v) (drop (6 * v) leaves)) (getD sizes v 0) room
-  unfolding tail
-  cone-asked one =
+cleared-column : (n : ℕ) (l : List ℕ) → column n 0 l ≡ replicate n 0 → cleared n l ≡ l
+cleared-column n l zeros = ap (λ (x : List ℕ). x ++ drop n l) (sym zeros ∙ first-column n l) ∙ take-append-drop n l
+
+-- One table
+
+module _ {inputs nodes k : ℕ} {fanins rows order : List ℕ} {v : ℕ} {cuts luts words : List ℕ}
+    (asked : TableAsked inputs nodes k fanins rows order v cuts luts words) (one : getD luts v 0 ≡ 1) {size : ℕ} (is : size ≡ sizeAt cuts v) where
+  pub cone-asked : ConeAsked inputs nodes k fanins rows order v (leavesFrom cuts v) size (length words)
+  cone-asked =
       let a = asked .arrays in
       record {
-        k = asked .k;
-        small = a .drawing .k-small;
-        drawn = a .drawing .drawn;
+        drawing = a .drawing;
         rows-long = a .rows-long;
-        order-long = omega (arith, a .drawing .order-long);
-        ordered = a .drawing .ordered;
-        gate = a .gates v (asked .low) one;
-        leaves-long =
-            omega (arith, a .leaves-long, asked .low, a .six v (asked .low), length-take (length leaves - 6 * v) (drop (6 * v) leaves), length-drop (6 * v) leaves);
-        cut = subst (Cut (netIn inputs nodes fan count) (asked .k) v) (sym tail-cut) (a .cuts v (asked .low) one);
-        values-long = a .values-long;
+        gate = a .gate v (asked .low) one;
+        leaves-long = leaves-room cuts v is (omega (arith, a .cuts-long, asked .low)) (a .six v (asked .low));
+        cut = subst (Cut (netIn inputs nodes fanins) k v) (sym (leaves-cut cuts v is)) (a .cut v (asked .low) one);
+        values-long = asked .words-long;
       }
 
-  pub cone-answered : {values : List ℕ} {table : ℕ} {values′ : List ℕ} → getD roots v 0 ≡ 1 →
-      ConeAnswered inputs nodes fan count rows v (take (length leaves - 6 * v) (drop (6 * v) leaves)) (getD sizes v 0) values table values′ →
-      TableAnswered inputs nodes fan count rows leaves sizes roots v values table values′
-  unfolding tail
-  cone-answered {table = table} one answer =
+  pub cone-answered : {table : ℕ} {words′ : List ℕ} → ConeAnswered inputs nodes fanins rows v (leavesFrom cuts v) size words table words′ →
+      TableAnswered inputs nodes fanins rows cuts luts v words table words′
+  cone-answered {table} answer =
       record {
-        is = record {
-          root = λ _. subst (λ (cut : List ℕ). ConeTable (netIn inputs nodes fan count) (tablesIn rows) cut v table) tail-cut (answer .table-is);
-          other = λ none. absurd (none one);
-        };
-        cleared = λ before clean. cleared-then clean (answer .values);
+        is =
+            record {
+              root = λ _. subst (λ (cut : List ℕ). ConeTable (netIn inputs nodes fanins) (tablesIn rows) cut v table) (leaves-cut cuts v is) (answer .table-is);
+              other = λ none. absurd (none one);
+            };
+        kept = answer .values ∙ cleared-column nodes words (asked .clear);
       }
 
-pub no-table : (inputs nodes : ℕ) (fan count rows leaves sizes roots : List ℕ) (v : ℕ) (values : List ℕ) → (getD roots v 0 ≡ 1 → ⊥) →
-    TableAnswered inputs nodes fan count rows leaves sizes roots v values 0 values
-no-table inputs nodes fan count rows leaves sizes roots v values none =
-    record { is = record { root = λ one. absurd (none one); other = λ _. refl }; cleared = λ before clean. clean }
+pub no-table : (inputs nodes : ℕ) (fanins rows cuts luts : List ℕ) (v : ℕ) (words : List ℕ) → (getD luts v 0 ≡ 1 → ⊥) →
+    TableAnswered inputs nodes fanins rows cuts luts v words 0 words
+no-table inputs nodes fanins rows cuts luts v words none =
+    record { is = record { root = λ one. absurd (none one); other = λ _. refl }; kept = refl }
 
 -- The nodes below v have their tables.
-pub record TablesSoFar (inputs nodes : ℕ) (fan count rows leaves sizes roots values₀ tables₀ values tables : List ℕ) (v : ℕ) : Type 0 where
+pub record TablesSoFar (inputs nodes : ℕ) (fanins rows cuts luts words₀ words : List ℕ) (v : ℕ) : Type 0 where
   pub passed : v ≤ nodes
-  pub cleared : Cleared nodes values₀ values
-  pub long : length tables ≡ length tables₀
-  pub each : (u : ℕ) → u < v → TableIs (netIn inputs nodes fan count) (tablesIn rows) leaves sizes roots u (getD tables u 0)
-  pub beyond : (u : ℕ) → v ≤ u → getD tables u 0 ≡ getD tables₀ u 0
+  pub each : (u : ℕ) → u < v → TableIs (netIn inputs nodes fanins) (tablesIn rows) cuts luts u (tablesIn (tablesOf nodes words) u)
+  pub clear : valuesOf nodes words ≡ replicate nodes 0
+  pub rest : Beyond (2 * nodes) words₀ words
 
-module _ (inputs nodes : ℕ) (fan count rows leaves sizes roots : List ℕ) where
-  pub tables-none : {entry values : List ℕ} (tables : List ℕ) → Cleared nodes entry values →
-      TablesSoFar inputs nodes fan count rows leaves sizes roots values tables values tables 0
-  tables-none tables clean =
+module _ {inputs nodes k : ℕ} {fanins rows order cuts luts entry : List ℕ}
+    (asked : TablesAsked inputs nodes k fanins rows order cuts luts entry) {words₀ : List ℕ} (first : words₀ ≡ cleared nodes entry) where
+  pub tables-none : TablesSoFar inputs nodes fanins rows cuts luts words₀ words₀ 0
+  tables-none =
       record {
         passed = omega arith;
-        cleared = record { long = refl; zero = clean .zero; beyond = λ u high. refl };
-        long = refl;
         each = λ u low. absurd (omega arith);
-        beyond = λ u high. refl;
+        clear = ap (valuesOf nodes) first ∙ column-cleared nodes entry;
+        rest = beyond-same (2 * nodes) words₀;
       }
 
-  module _ {values₀ tables₀ values tables : List ℕ} {v : ℕ} (so-far : TablesSoFar inputs nodes fan count rows leaves sizes roots values₀ tables₀ values tables v) where
-    pub table-asked : {order entry : List ℕ} → TablesAsked inputs nodes fan count rows order leaves sizes roots entry tables₀ → Cleared nodes entry values₀ → v < nodes →
-        TableAsked inputs nodes fan count rows order v leaves sizes roots (length values)
-    table-asked {order} asked clean low =
-        record {
-          k = asked .k;
-          arrays = subst (TablesFrom inputs nodes (asked .k) fan count rows order leaves sizes roots) (sym (so-far .cleared .long ∙ clean .long)) (asked .arrays);
-          low = low;
-        }
+  cleared-rest : Beyond (2 * nodes) entry words₀
+  cleared-rest =
+      let long : nodes ≤ length entry = omega (arith, asked .words-long) in
+      rw first (record { size = cleared-size nodes entry long; beyond = filled-beyond nodes 0 entry long (2 * nodes) (omega arith) })
 
-    pub tables-turn : {values′ : List ℕ} {table : ℕ} → nodes ≤ length tables₀ → v < nodes → TableAnswered inputs nodes fan count rows leaves sizes roots v values table values′ →
-        TablesSoFar inputs nodes fan count rows leaves sizes roots values₀ tables₀ values′ (set tables v table) (v + 1)
-    tables-turn {table = table} room low answer =
-        record {
+  module _ {words : List ℕ} {v : ℕ} (so-far : TablesSoFar inputs nodes fanins rows cuts luts words₀ words v) where
+    pub words-room : 2 * nodes ≤ length words
+    words-room = omega (arith, asked .words-long, cleared-rest .size, so-far .rest .size)
+
+    pub table-asked : v < nodes → TableAsked inputs nodes k fanins rows order v cuts luts words
+    table-asked low = record { arrays = asked .arrays; low = low; words-long = omega (arith, words-room); clear = so-far .clear }
+
+    pub tables-turn : v < nodes → {table : ℕ} {words′ : List ℕ} → TableAnswered inputs nodes fanins rows cuts luts v words table words′ →
+        TablesSoFar inputs nodes fanins rows cuts luts words₀ (set words′ (nodes + v) table) (v + 1)
+    tables-turn low {table} {words′} answer =
+        rw (answer .kept)
+        (record {
           passed = omega arith;
-          cleared = answer .cleared values₀ (so-far .cleared);
-          long = length-set tables v table ∙ so-far .long;
-          each = λ u below. by u below (ℕ-discrete u v);
-          beyond = λ u high. getD-set-other tables v u table 0 (λ e. omega arith) ∙ so-far .beyond u (omega arith);
-        }
+          each = λ u below. rw stored (by u below (ℕ-discrete u v));
+          clear = column-before nodes 0 words (nodes + v) table (omega arith) ∙ so-far .clear;
+          rest = beyond-then (so-far .rest) beside;
+        })
       where
-        by : (u : ℕ) → u < v + 1 → Dec (u ≡ v) → TableIs (netIn inputs nodes fan count) (tablesIn rows) leaves sizes roots u (getD (set tables v table) u 0)
-        by u below (yes e) =
-            subst (λ (w : ℕ). TableIs (netIn inputs nodes fan count) (tablesIn rows) leaves sizes roots w (getD (set tables v table) w 0)) (sym e)
-            (subst (TableIs (netIn inputs nodes fan count) (tablesIn rows) leaves sizes roots v) (sym (getD-set-same tables v table 0 (omega (arith, so-far .long))))
-            (answer .is))
-        by u below (no other) =
-            subst (TableIs (netIn inputs nodes fan count) (tablesIn rows) leaves sizes roots u) (sym (getD-set-other tables v u table 0 other))
-            (so-far .each u (omega arith))
+        beside : Beyond (2 * nodes) words (set words (nodes + v) table)
+        beside =
+            record {
+              size = length-set words (nodes + v) table;
+              beyond = drop-set-lt (2 * nodes) words (nodes + v) table (omega arith);
+            }
 
-    pub tables-all : {entry : List ℕ} → Cleared nodes entry values₀ → nodes ≤ v → TablesMade inputs nodes fan count rows leaves sizes roots entry tables₀ values tables
-    tables-all clean done =
-        let e : v ≡ nodes = omega (arith, so-far .passed) in
+        stored : tablesOf nodes (set words (nodes + v) table) ≡ set (tablesOf nodes words) v table
+        stored =
+            let e : nodes + v ≡ 1 * nodes + v = omega arith in
+            ap (λ (i : ℕ). tablesOf nodes (set words i table)) e ∙ column-set nodes 1 words v table low
+
+        by : (u : ℕ) → u < v + 1 → Dec (u ≡ v) → TableIs (netIn inputs nodes fanins) (tablesIn rows) cuts luts u (getD (set (tablesOf nodes words) v table) u 0)
+        by u below (yes e) =
+            let room : v < length (tablesOf nodes words) = omega (arith, column-size nodes 1 words (omega (arith, words-room))) in
+            rw (e, getD-set-same (tablesOf nodes words) v table 0 room) (answer .is)
+        by u below (no other) = rw (getD-set-other (tablesOf nodes words) v u table 0 other) (so-far .each u (omega arith))
+
+    pub tables-all : nodes ≤ v → TablesMade inputs nodes fanins rows cuts luts entry words
+    tables-all done =
         record {
-          cleared = cleared-then clean (so-far .cleared);
-          long = so-far .long;
           each = λ u low. so-far .each u (omega arith);
-          beyond = λ u high. so-far .beyond u (omega arith);
+          clear = so-far .clear;
+          rest = beyond-then cleared-rest (so-far .rest);
         }

@@ -2,13 +2,13 @@
 use covering::cones::cone_table;
 use covering::covers::cover;
 use covering::covers::depth;
-use covering::marks::clear_words;
-use drawing::CutSize;
-use drawing::Label;
-use drawing::Node;
 use labelling::label_gates;
-ghost use lib.ListN.{length};
-ghost use Rattle.searching.specs.Searching.{scratchOf};
+use storage::Label;
+use storage::Node;
+use storage::Numbers;
+use storage::columns::clear_words;
+use storage::lists::PLACES;
+use storage::lists::cut_size;
 ghost use Rattle.packing.specs.Tables.{TableAsked, TableAnswered, TablesAsked, TablesMade, madeOf, MapAsked, MappingMade};
 
 // How many LUTs there are, and how deep they are.
@@ -17,151 +17,94 @@ pub struct Mapping {
     pub depth: Label,
 }
 
-// The table of a root's cone; of any other node 0.
+// The table of a root's cone; of any other node 0. The cone's values are worked out in the first `nodes` words, which are 0 and left so.
 fn table_of(
-    fan: &[u16],
-    count: &[u8],
+    numbers: Numbers,
+    fanins: &[u16],
     rows: &[u64],
-    inputs: usize,
-    nodes: usize,
     order: &[u16],
     gate: Node,
-    leaves: &[u16],
-    sizes: &[u8],
-    roots: &[u8],
-    values: &mut [u64],
+    cuts: &[u16],
+    luts: &[u8],
+    words: &mut [u64],
 ) -> u64
-    requires { ⌜ TableAsked inputs nodes (now fan) (now count) (now rows) (now order) (gate .id) (now leaves) (now sizes) (now roots) (length (now values)) ⌝ }
-    ensures { λ r. ⌜ TableAnswered inputs nodes (now (fan .entry)) (now (count .entry)) (now (rows .entry)) (now (leaves .entry)) (now (sizes .entry)) (now (roots .entry)) (gate .id) (now (values .entry)) r (now (values .exit)) ⌝ }
+    requires { ⌜ TableAsked (numbers .inputs) (numbers .nodes) (numbers .k .leaves) (now fanins) (now rows) (now order) (gate .id)
+        (now cuts) (now luts) (now words) ⌝ }
+    ensures { λ r. ⌜ TableAnswered (numbers .inputs) (numbers .nodes) (now (fanins .entry)) (now (rows .entry)) (now (cuts .entry))
+        (now (luts .entry)) (gate .id) (now (words .entry)) r (now (words .exit)) ⌝ }
 {
     let v = gate.id as usize;
-    if roots[v] != 1 {
+    if luts[v] != 1 {
         return 0;
     }
-    let at = 6 * v;
-    let size = CutSize { leaves: sizes[v] };
+    let at = PLACES * v + 1;
     cone_table(
-        fan,
-        count,
+        numbers,
+        fanins,
         rows,
-        inputs,
-        nodes,
         order,
         gate,
-        &leaves[at..],
-        size,
-        values,
+        &cuts[at..],
+        cut_size(cuts, gate),
+        words,
     )
 }
 
-// The tables of all nodes; the values are scratch, and left 0.
+// The tables of all nodes, behind the words for a cone's values.
 fn store_tables(
-    fan: &[u16],
-    count: &[u8],
+    numbers: Numbers,
+    fanins: &[u16],
     rows: &[u64],
-    inputs: usize,
-    nodes: usize,
     order: &[u16],
-    leaves: &[u16],
-    sizes: &[u8],
-    roots: &[u8],
-    values: &mut [u64],
-    tables: &mut [u64],
+    cuts: &[u16],
+    luts: &[u8],
+    words: &mut [u64],
 )
-    requires { ⌜ TablesAsked inputs nodes (now fan) (now count) (now rows) (now order) (now leaves) (now sizes) (now roots) (now values) (now tables) ⌝ }
-    ensures { λ _. ⌜ TablesMade inputs nodes (now (fan .entry)) (now (count .entry)) (now (rows .entry)) (now (leaves .entry)) (now (sizes .entry)) (now (roots .entry)) (now (values .entry)) (now (tables .entry)) (now (values .exit)) (now (tables .exit)) ⌝ }
+    requires { ⌜ TablesAsked (numbers .inputs) (numbers .nodes) (numbers .k .leaves) (now fanins) (now rows) (now order) (now cuts)
+        (now luts) (now words) ⌝ }
+    ensures { λ _. ⌜ TablesMade (numbers .inputs) (numbers .nodes) (now (fanins .entry)) (now (rows .entry)) (now (cuts .entry))
+        (now (luts .entry)) (now (words .entry)) (now (words .exit)) ⌝ }
 {
-    clear_words(values, nodes);
+    let nodes = numbers.nodes;
+    clear_words(words, nodes);
     let mut v: usize = 0;
     while v < nodes {
         let gate = Node { id: v as u16 };
-        tables[v] = table_of(
-            fan,
-            count,
-            rows,
-            inputs,
-            nodes,
-            order,
-            gate,
-            leaves,
-            sizes,
-            roots,
-            values,
-        );
+        let table = table_of(numbers, fanins, rows, order, gate, cuts, luts, words);
+        let at = nodes + v;
+        words[at] = table;
         v += 1;
     }
 }
 
-// Labels and cuts of all gates, the roots that the first `number` outputs need, and each root's table. `walked` to `parent` and `values` are
-// scratch with an entry a node, and left 0.
+// Labels and cuts of all gates, the roots that the outputs need, and each root's table. The roles, the links and the first `nodes` words are
+// scratch, and left 0.
 pub fn map_gates(
-    fan: &[u16],
-    count: &[u8],
+    numbers: Numbers,
+    fanins: &[u16],
     rows: &[u64],
-    inputs: usize,
-    nodes: usize,
-    k: CutSize,
     order: &[u16],
     outputs: &[u16],
-    number: usize,
     labels: &mut [u16],
-    leaves: &mut [u16],
-    sizes: &mut [u8],
-    walked: &mut [u8],
-    met: &mut [u8],
-    deep: &mut [u8],
-    area: &mut [u8],
-    ends: &mut [u8],
-    next: &mut [u16],
-    prev: &mut [u16],
-    ins: &mut [u16],
-    outs: &mut [u16],
-    parent: &mut [u16],
-    roots: &mut [u8],
-    values: &mut [u64],
-    tables: &mut [u64],
+    cuts: &mut [u16],
+    roles: &mut [u8],
+    links: &mut [u16],
+    luts: &mut [u8],
+    words: &mut [u64],
 ) -> Mapping
-    requires { ⌜ MapAsked inputs nodes (k .leaves) (now fan) (now count) (now rows) (now order) (now outputs) number (madeOf (now labels) (now leaves) (now sizes) (now roots) (now values) (now tables)) (scratchOf (now walked) (now met) (now deep) (now area) (now ends) (now next) (now prev) (now ins) (now outs) (now parent)) ⌝ }
-    ensures { λ r. ⌜ MappingMade inputs nodes (k .leaves) (now (fan .entry)) (now (count .entry)) (now (rows .entry)) (now (outputs .entry)) number (madeOf (now (labels .entry)) (now (leaves .entry)) (now (sizes .entry)) (now (roots .entry)) (now (values .entry)) (now (tables .entry))) (scratchOf (now (walked .entry)) (now (met .entry)) (now (deep .entry)) (now (area .entry)) (now (ends .entry)) (now (next .entry)) (now (prev .entry)) (now (ins .entry)) (now (outs .entry)) (now (parent .entry))) r (madeOf (now (labels .exit)) (now (leaves .exit)) (now (sizes .exit)) (now (roots .exit)) (now (values .exit)) (now (tables .exit))) (scratchOf (now (walked .exit)) (now (met .exit)) (now (deep .exit)) (now (area .exit)) (now (ends .exit)) (now (next .exit)) (now (prev .exit)) (now (ins .exit)) (now (outs .exit)) (now (parent .exit))) ⌝ }
+    requires { ⌜ MapAsked (numbers .inputs) (numbers .nodes) (numbers .k .leaves) (now fanins) (now rows) (now order) (now outputs)
+        (numbers .roots) (madeOf (now labels) (now cuts) (now luts) (now words)) (now roles) (now links) ⌝ }
+    ensures { λ r. ⌜ MappingMade (numbers .inputs) (numbers .nodes) (numbers .k .leaves) (now (fanins .entry)) (now (rows .entry))
+        (now (outputs .entry)) (numbers .roots) (madeOf (now (labels .entry)) (now (cuts .entry)) (now (luts .entry)) (now (words .entry)))
+        (now (roles .entry)) (now (links .entry)) r (madeOf (now (labels .exit)) (now (cuts .exit)) (now (luts .exit)) (now (words .exit)))
+        (now (roles .exit)) (now (links .exit)) ⌝ }
 {
-    label_gates(
-        fan,
-        count,
-        inputs,
-        nodes,
-        k,
-        order,
-        labels,
-        leaves,
-        sizes,
-        walked,
-        met,
-        deep,
-        area,
-        ends,
-        next,
-        prev,
-        ins,
-        outs,
-        parent,
-    );
-    let luts = cover(inputs, nodes, order, leaves, sizes, outputs, number, roots);
-    store_tables(
-        fan,
-        count,
-        rows,
-        inputs,
-        nodes,
-        order,
-        leaves,
-        sizes,
-        roots,
-        values,
-        tables,
-    );
-    let deepest = depth(labels, outputs, number);
+    label_gates(numbers, fanins, order, labels, cuts, roles, links);
+    let many = cover(numbers, order, cuts, outputs, luts);
+    store_tables(numbers, fanins, rows, order, cuts, luts, words);
+    let deepest = depth(labels, outputs, numbers.roots);
     Mapping {
-        luts: luts,
+        luts: many,
         depth: deepest,
     }
 }

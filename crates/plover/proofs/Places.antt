@@ -6,9 +6,8 @@ use mathlib.Core.Path.{_≡_, refl, ap, sym, subst}
 use mathlib.Core.Logic.{⊎-elim}
 use mathlib.Core.List.{List, [], _∷_, _++_, map, flatMap, List·Memᴰ, List·Memᴰ·head, List·Memᴰ·tail, List·Memᴰ·cases-cons, List·Memᴰ·append-cases, List·Memᴰ·eq-of-singleton}
 use lib.ListN.{length, getD}
+use Rattle.storage.specs.declared.Node.{Node}
 use Rattle.theory.specs.Net.{Net}
-use Rattle.drawing.specs.declared.Head.{Head}
-use Rattle.drawing.specs.declared.Node.{Node}
 use Rattle.drawing.specs.declared.Verdict.the-variants.{Sound}
 use Rattle.drawing.specs.Refusals as table
 use Rattle.drawing.specs.Fields.{headK}
@@ -21,13 +20,15 @@ use Rattle.walking.specs.Promises.{LoopRuling}
 use Rattle.taking.specs.declared.Taking.{Taking}
 use Rattle.taking.specs.declared.Taking.the-variants as taking
 use Rattle.taking.specs.Judged.{Says}
+use Rattle.taking.proofs.Judged.{free-of}
 use Rattle.sheet.specs.declared.Ruling.the-variants as ruling
 use Rattle.sheet.specs.Sheet.{Lut, Sheet}
 use Rattle.sheet.specs.Encoding.{narrow, encode}
 use Rattle.sheet.specs.Shape.{reading}
 use Rattle.sheet.specs.Rules.{Rule, Found, FirstBroken, rulePlace, gateRules, lutRules, gates, rulesOf}
 use Rattle.sheet.proofs.Longest.{no-longer-than}
-use Rattle.keeping.proofs.Listed.{flat-member, map-member, from-member}
+use Rattle.sheet.proofs.Firsts.{from-member}
+use Rattle.keeping.proofs.Listed.{flat-member, map-member}
 use Rattle.keeping.proofs.Shaped.{mappers-kept}
 use Rattle.keeping.proofs.Tables.{bounded, outputs-are-nodes, nodes-few, nodes-are, k-few, drawing, table-ranked}
 use Rattle.mapping.specs.declared.Reply.{Reply}
@@ -46,27 +47,22 @@ loop-node (LoopRuling.lowest gate around lowest) = gate .below
 
 -- the place that is said of a table, if any
 abbrev placeSaid : Taking → ℕ
-placeSaid (taking.Taken h n) = 0
+placeSaid (taking.Taken n) = 0
 placeSaid (taking.Refused x) = table.place x
 placeSaid (taking.LoopAt g) = g .id
-placeSaid taking.Lent = 0
+placeSaid taking.TooShort = 0
 
 said-place : (s : List ℕ) (t : Taking) → Says s t → placeSaid t ≤ 3719
 said-place s t (Says.refused e) = refused-place s e
 said-place s t (Says.ordered {o = made.Whole} e ruling) = omega arith
 said-place s t (Says.ordered {o = made.LoopAt g} e ruling) = omega (arith, loop-node ruling, nodes-few s e)
 
--- a table taken reads whole and has no loop
-free-of : (s : List ℕ) (t : Taking) {h : Head} {n : ℕ} → Says s t → t ≡ taking.Taken h n → (found s .verdict ≡ Sound) × LoopRuling (netOf (tableOf s)) made.Whole
-free-of s t (Says.refused e) same = let z : _≡_ {A = ℕ} 0 1 = cc in absurd (omega arith)
-free-of s t (Says.ordered {o = made.Whole} e ruling) same = (e, ruling)
-free-of s t (Says.ordered {o = made.LoopAt g} e ruling) same = let z : _≡_ {A = ℕ} 0 1 = cc in absurd (omega arith)
-
 sheet-length : (s : List ℕ) (sheet : Sheet) → mapper.Taken s → MapsTo s sheet → length (encode narrow sheet) ≤ 43554
 sheet-length s sheet taken to =
-    let (whole, free) = free-of s _ taken refl in
+    let (whole, free) = free-of taken refl in
     no-longer-than (drawing s whole free)
-    (mappers-kept (netOf (tableOf s)) (tablesOf (tableOf s)) (headK s) (found s .outputs) sheet (drawing s whole free) (table-ranked s whole free) (outputs-are-nodes s whole) to)
+    (mappers-kept (netOf (tableOf s)) (tablesOf (tableOf s)) (headK s) (found s .outputs) sheet (drawing s whole free) (table-ranked s whole free)
+    (outputs-are-nodes s whole) to)
     (k-few s whole) (nodes-few s whole)
 
 pub map-place : (s before : List ℕ) (r : Reply) (after : List ℕ) → Maps s before r after → mapper.place r < half
@@ -130,8 +126,8 @@ module _ (s t : List ℕ) (bytes : (i : ℕ) → getD t i 0 < 256) where
   few : found s .verdict ≡ Sound → nodesOf s ≤ 192
   few whole = table-sound s whole .head .nodes-most
 
-  broken-low : Drawable s t → reading (dueIn s) t .ruling ≡ ruling.Sound → {Kept : Rule → Type 0} (x : Found) → FirstBroken Kept (rulesOf (netOf (tableOf s)) (sheetIn s t)) x →
-      (r : Rule) → x ≡ Found.broken r → rulePlace r ≤ 192
+  broken-low : Drawable s t → reading (dueIn s) t .ruling ≡ ruling.Sound → {Kept : Rule → Type 0} (x : Found) →
+      FirstBroken Kept (rulesOf (netOf (tableOf s)) (sheetIn s t)) x → (r : Rule) → x ≡ Found.broken r → rulePlace r ≤ 192
   broken-low d sound {Kept} x first r e =
       let net = netOf (tableOf s) in
       let roots : (lut : Lut) → List·Memᴰ lut (sheetIn s t .luts) → lut .root < net .nodes =

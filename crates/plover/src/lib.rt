@@ -1,11 +1,12 @@
 // The library for programs in C and in Rust: the mapper and the inspector, each with its reply as a word.
-use drawing::Node;
 use drawing::refusals::number_of;
 use drawing::refusals::place_of;
 use inspecting::Inspection;
 use mapping::Reply;
 use sheet::faults::number_of_fault;
 use sheet::faults::place_of_fault;
+use sheet::limits::SHEET_ROOM;
+use storage::Node;
 ghost use mathlib.Core.Path.{_≡_};
 ghost use Prim.Native.Nat.{_<_};
 ghost use Rattle.mapping.specs.Maps.{number as map-number, place as map-place};
@@ -38,7 +39,7 @@ fn map_word(reply: Reply) -> u64
         Reply::Mapped(length) => word(0, length as u64),
         Reply::Refused(r) => word(number_of(r), place_of(r)),
         Reply::LoopAt(gate) => gate_word(7, gate),
-        Reply::Room => word(8, 49152),
+        Reply::Room => word(8, SHEET_ROOM as u64),
     }
 }
 

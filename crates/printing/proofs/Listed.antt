@@ -5,17 +5,18 @@ use native.Mathlib.Omega.{arith}
 use mathlib.Core.Path.{_≡_, refl, ap, sym, subst, _∙_}
 use mathlib.Core.List.{List, [], _∷_, _++_, map, map-map, append-nil, append-assoc}
 use mathlib.Core.Bool.{cond}
-use lib.ListN.{length, getD, take, length-map}
+use lib.ListN.{length, getD, take, drop, length-map, length-take, length-drop}
 use lib.Seq.{take-suc, length-take-le}
+use Rattle.storage.specs.declared.Numbers.{Numbers}
+use Rattle.storage.specs.Lists.{listAt}
+use Rattle.storage.specs.Drawings.{netIn, tablesIn}
+use Rattle.storage.proofs.Entries.{member-of-part}
+use Rattle.storage.proofs.Drawings.{drawn-span}
 use Rattle.theory.proofs.Picks.{map-agree}
-use Rattle.drawing.specs.declared.Head.{Head}
-use Rattle.drawing.specs.Table.{Table, netIn, tablesIn}
-use Rattle.walking.proofs.Entries.{member-of-part}
+use Rattle.drawing.specs.Table.{Table}
 use Rattle.area.specs.Area.{labelIn}
 use Rattle.flow.specs.Numbers.{those}
 use Rattle.flow.proofs.Sums.{those-hold}
-use Rattle.searching.specs.Searching.{Scratch, scratchOf}
-use Rattle.labelling.specs.Storing.{cutIn}
 use Rattle.sheet.specs.Sheet.{Line, Sheet, lineOf, noLine}
 use Rattle.sheet.specs.Rules.{from, labelsOf}
 use Rattle.listing.specs.Text.{Lut, Mapping as Printed, listingOf}
@@ -24,12 +25,12 @@ use Rattle.listing.specs.Arrays.{Arrays, arraysOf, lutAt, outputAt, marked, mar
 use Rattle.keeping.specs.Mappers.{SettledSheet}
 use Rattle.keeping.specs.Printed.{listedLut, listedOutput, mappingOf}
 use Rattle.packing.specs.declared.Mapping.{Mapping}
-use Rattle.packing.specs.Tables.{Made, madeOf, MapAsked, MappingMade}
+use Rattle.packing.specs.Tables.{Made, MapAsked, MappingMade}
 use Rattle.packing.proofs.StageOne.{all-labelled}
-use Rattle.writing.specs.Luts.{isMarked, lutIn, lutsBelow}
-use Rattle.writing.specs.Sheets.{sheetIn}
+use Rattle.mapping.specs.Luts.{isMarked, lutIn, lutsBelow}
+use Rattle.mapping.specs.WholeSheets.{sheetIn}
 use Rattle.mapping.proofs.SheetsMade.{Standing, sheet-with, label-same, luts-counted}
-use Rattle.mapping.proofs.DrawingsMapped.{standing}
+use Rattle.mapping.proofs.DrawingsMapped.{table-at, luts-long, words-long, standing}
 use Rattle.printing.specs.Lists.{ListAsked, TakenListed}
 
 -- The marked nodes, by the marks and by their ids
@@ -64,52 +65,52 @@ line-at line v zero i low = absurd (omega arith)
 line-at line v (suc n) zero low = ap line (omega arith)
 line-at line v (suc n) (suc i) low = line-at line (suc v) n i (omega arith) ∙ ap line (omega arith)
 
-module _ {inputs nodes k : ℕ} {fan count rows order outputs : List ℕ} {number : ℕ} {m : Made} {s : Scratch}
-    (asked : MapAsked inputs nodes k fan count rows order outputs number m s)
-    {r : Mapping} {m′ : Made} {s′ : Scratch} (made : MappingMade inputs nodes k fan count rows outputs number m s r m′ s′) where
+module _ {inputs nodes k : ℕ} {fanins rows order outputs : List ℕ} {number : ℕ} {m : Made} {roles links : List ℕ}
+    (asked : MapAsked inputs nodes k fanins rows order outputs number m roles links)
+    {r : Mapping} {m′ : Made} {roles′ links′ : List ℕ}
+    (made : MappingMade inputs nodes k fanins rows outputs number m roles links r m′ roles′ links′) (size : ℕ) (fits : nodes ≤ size) where
   abbrev bare : ℕ → Line
-  bare v = lineOf (labelIn (m′ .labels) v) (cutIn (m′ .leaves) (m′ .sizes) v) []
+  bare v = lineOf (labelIn (m′ .labels) v) (listAt (m′ .cuts) v) []
 
   abbrev lines : List Line
   lines = map bare (from inputs (nodes - inputs))
 
+  abbrev tables : List ℕ
+  tables = take size (drop nodes (m′ .words))
+
   abbrev arrays : Arrays
-  arrays = arraysOf (m′ .labels) (m′ .leaves) (m′ .sizes) (m′ .roots) (m′ .tables) outputs
+  arrays = arraysOf (m′ .labels) (m′ .cuts) (m′ .luts) tables outputs
 
   abbrev sheet : Sheet
-  sheet = sheetIn (r .depth .depth) lines (m′ .leaves) (m′ .sizes) (m′ .roots) (m′ .tables) nodes
+  sheet = sheetIn (r .depth .depth) lines (m′ .cuts) (m′ .luts) tables nodes
 
   span : inputs ≤ nodes
-  unfolding netIn
-  span = asked .drawing .drawn .bounded .span
+  span = drawn-span (asked .drawing .drawn)
 
   many : length lines ≡ nodes - inputs
   many = length-map (from inputs (nodes - inputs)) bare ∙ from-length inputs (nodes - inputs)
 
-  stands : Standing inputs nodes k fan count rows (m′ .labels) (m′ .leaves) (m′ .sizes) (m′ .roots) (m′ .tables) (take number outputs) lines
+  stands : Standing inputs nodes k fanins rows (m′ .labels) (m′ .cuts) (m′ .luts) tables (take number outputs) lines
   stands =
-      standing asked made lines (omega (arith, many, span)) (λ i low.
+      standing asked made tables (table-at nodes size (m′ .words) fits) lines (omega (arith, many, span)) (λ i low.
       let is = line-at bare inputs (nodes - inputs) i (omega (arith, low, many)) in
       record { label = ap (λ (l : Line). l .label) is; cut = ap (λ (l : Line). l .leaves) is })
 
-  settled : SettledSheet (netIn inputs nodes fan count) (tablesIn rows) k (take number outputs) sheet
+  settled : SettledSheet (netIn inputs nodes fanins) (tablesIn rows) k (take number outputs) sheet
   settled = sheet-with stands (λ t gate. tt) (r .depth .depth) (made .depth)
 
   -- what is printed
 
-  roots-long : nodes ≤ length (m′ .roots)
-  roots-long = omega (arith, asked .roots-long, made .cover .long)
-
-  luts-are : lutsIn arrays nodes ≡ map (listedLut (labelsOf inputs lines)) (lutsBelow (m′ .leaves) (m′ .sizes) (m′ .roots) (m′ .tables) nodes)
+  luts-are : lutsIn arrays nodes ≡ map (listedLut (labelsOf inputs lines)) (lutsBelow (m′ .cuts) (m′ .luts) tables nodes)
   unfolding lutsBelow lutAt
   luts-are =
-      ap (map (lutAt (m′ .labels) (m′ .leaves) (m′ .sizes) (m′ .tables))) (marked-those (m′ .roots) nodes roots-long)
-      ∙ map-agree (lutAt (m′ .labels) (m′ .leaves) (m′ .sizes) (m′ .tables))
-      (λ v. listedLut (labelsOf inputs lines) (lutIn (m′ .leaves) (m′ .sizes) (m′ .tables) v)) (those (isMarked (m′ .roots)) nodes)
+      ap (map (lutAt (m′ .labels) (m′ .cuts) tables)) (marked-those (m′ .luts) nodes (luts-long asked made))
+      ∙ map-agree (lutAt (m′ .labels) (m′ .cuts) tables) (λ v. listedLut (labelsOf inputs lines) (lutIn (m′ .cuts) tables v))
+      (those (isMarked (m′ .luts)) nodes)
       (λ v among.
-      let same : labelIn (m′ .labels) v ≡ labelsOf inputs lines v = label-same stands v (those-hold (isMarked (m′ .roots)) nodes among .0) in
-      λ i. record { root = v; depth = same i; leaves = cutIn (m′ .leaves) (m′ .sizes) v; table = getD (m′ .tables) v 0 })
-      ∙ sym (map-map (listedLut (labelsOf inputs lines)) (lutIn (m′ .leaves) (m′ .sizes) (m′ .tables)) (those (isMarked (m′ .roots)) nodes))
+      let same : labelIn (m′ .labels) v ≡ labelsOf inputs lines v = label-same stands v (those-hold (isMarked (m′ .luts)) nodes among .0) in
+      λ i. record { root = v; depth = same i; leaves = listAt (m′ .cuts) v; table = getD tables v 0 })
+      ∙ sym (map-map (listedLut (labelsOf inputs lines)) (lutIn (m′ .cuts) tables) (those (isMarked (m′ .luts)) nodes))
 
   outputs-are : outputsIn arrays number ≡ map (listedOutput (labelsOf inputs lines)) (take number outputs)
   unfolding outputAt
@@ -123,12 +124,11 @@ module _ {inputs nodes k : ℕ} {fan count rows order outputs : List ℕ} {numbe
       let labelled = all-labelled asked (made .labelled .made) in
       record {
         span = span;
-        ids = omega (arith, asked .drawing .small);
+        small = asked .drawing .small;
         labels-long = labelled .labels-long;
-        leaves-long = labelled .leaves-long;
-        sizes-long = labelled .sizes-long;
-        roots-long = roots-long;
-        tables-long = omega (arith, asked .tables-long, made .tables .long);
+        cuts-long = labelled .cuts-long;
+        luts-long = luts-long asked made;
+        tables-long = simp (length-take, length-drop) (omega (arith, words-long asked made, fits));
         outputs-long = asked .outputs-long;
         six = λ v low one. labelled .six v low;
         output-nodes = λ i low. asked .output-nodes (getD outputs i 0) (member-of-part number outputs i low (omega (arith, asked .outputs-long)));
@@ -136,8 +136,8 @@ module _ {inputs nodes k : ℕ} {fan count rows order outputs : List ℕ} {numbe
 
   counted : r .luts ≡ length (lutsIn arrays nodes)
   counted =
-      luts-counted (made .cover) (m′ .tables)
-      ∙ sym (length-map (lutsBelow (m′ .leaves) (m′ .sizes) (m′ .roots) (m′ .tables) nodes) (listedLut (labelsOf inputs lines)))
+      luts-counted (made .cover) tables
+      ∙ sym (length-map (lutsBelow (m′ .cuts) (m′ .luts) tables nodes) (listedLut (labelsOf inputs lines)))
       ∙ sym (ap (λ (l : List Lut). length l) luts-are)
 
   mapping-is : (table : Table) → table .k ≡ k → table .inputs ≡ inputs → length (table .gates) ≡ nodes - inputs → table .outputs ≡ take number outputs →
@@ -149,29 +149,29 @@ module _ {inputs nodes k : ℕ} {fan count rows order outputs : List ℕ} {numbe
       outputs-are ∙ (λ i. map (listedOutput (labelsOf (sym inputs-is i) lines)) (sym outputs-is i)) in
       λ i. record { k = sym k-is i; inputs = sym inputs-is i; gates = sym gates-is i; luts = luts i; depth = r .depth .depth; outputs = all i }
 
--- In the paper's numbers, with arrays of 192 entries and more.
-module _ (h : Head) {number : ℕ} {fan count rows outputs order text labels leaves sizes walked met deep area ends next prev ins outs parent roots values tables : List ℕ}
-    {r : Mapping} {m′ : Made} {s′ : Scratch} (asked : ListAsked h number fan count rows outputs order text)
-    (made : MappingMade (h .inputs) (h .inputs + h .gates) (h .k .leaves) fan count rows outputs number (madeOf labels leaves sizes roots values tables)
-    (scratchOf walked met deep area ends next prev ins outs parent) r m′ s′)
-    (map-asked : MapAsked (h .inputs) (h .inputs + h .gates) (h .k .leaves) fan count rows order outputs number (madeOf labels leaves sizes roots values tables)
-    (scratchOf walked met deep area ends next prev ins outs parent)) where
-  pub mapping-asked :
-      Held (h .inputs) (h .inputs + h .gates) (arraysOf (m′ .labels) (m′ .leaves) (m′ .sizes) (m′ .roots) (m′ .tables) outputs) number
-      × ((r .luts ≡ length (lutsIn (arraysOf (m′ .labels) (m′ .leaves) (m′ .sizes) (m′ .roots) (m′ .tables) outputs) (h .inputs + h .gates)))
-      × (room (h .inputs + h .gates) number ≤ length text))
-  mapping-asked =
-      (held map-asked made, (counted map-asked made, omega (arith, asked .few, asked .room, asked .taken .nodes-most)))
+-- In the paper's numbers: the tables are `size` of the words behind the first column.
 
-  pub taken-listed : {n : ℕ} {after : List ℕ} →
-      Wrote text (listingOf (mappingIn (h .k .leaves) (h .inputs) (h .inputs + h .gates)
-      (arraysOf (m′ .labels) (m′ .leaves) (m′ .sizes) (m′ .roots) (m′ .tables) outputs) number (r .depth .depth))) n after →
-      TakenListed h number fan count rows outputs text n after
-  taken-listed {n} {after} wrote =
+module _ {n : Numbers} {fanins rows order outputs text : List ℕ} (asked : ListAsked n fanins rows order outputs text)
+    {m : Made} {roles links : List ℕ} {r : Mapping} {m′ : Made} {roles′ links′ : List ℕ}
+    (made : MappingMade (n .inputs) (n .nodes) (n .k .leaves) fanins rows outputs (n .roots) m roles links r m′ roles′ links′)
+    (map-asked : MapAsked (n .inputs) (n .nodes) (n .k .leaves) fanins rows order outputs (n .roots) m roles links)
+    (size : ℕ) (fits : n .nodes ≤ size) where
+  abbrev all : Arrays
+  all = arraysOf (m′ .labels) (m′ .cuts) (m′ .luts) (take size (drop (n .nodes) (m′ .words))) outputs
+
+  pub mapping-asked : Held (n .inputs) (n .nodes) all (n .roots)
+      × ((r .luts ≡ length (lutsIn all (n .nodes))) × (room (n .nodes) (n .roots) ≤ length text))
+  mapping-asked =
+      (held map-asked made size fits, (counted map-asked made size fits, omega (arith, asked .few, asked .room, asked .taken .nodes-most)))
+
+  pub taken-listed : {written : ℕ} {after : List ℕ} →
+      Wrote text (listingOf (mappingIn (n .k .leaves) (n .inputs) (n .nodes) all (n .roots) (r .depth .depth))) written after →
+      TakenListed n fanins rows outputs text written after
+  taken-listed {written} {after} wrote =
       record {
-        sheet = sheet map-asked made;
-        settled = settled map-asked made;
+        sheet = sheet map-asked made size fits;
+        settled = settled map-asked made size fits;
         text = λ table is.
-            subst (λ (x : Printed). Wrote text (listingOf x) n after)
-            (mapping-is map-asked made table (is .k) (is .inputs) (omega (arith, is .gates)) (is .outputs-are)) wrote;
+            subst (λ (x : Printed). Wrote text (listingOf x) written after)
+            (mapping-is map-asked made size fits table (is .k) (is .inputs) (omega (arith, is .gates)) (is .outputs-are)) wrote;
       }

@@ -4,18 +4,15 @@ use native.Mathlib.Omega.{arith}
 use mathlib.Core.Path.{_≡_, refl, ap, sym, _∙_}
 use mathlib.Core.List.{List, [], _++_}
 use lib.ListN.{length, drop}
-use Rattle.drawing.specs.declared.Verdict.the-variants.{Sound}
 use Rattle.drawing.specs.Refusals.{number, place}
 use Rattle.drawing.specs.Fields.{headK}
 use Rattle.drawing.specs.Table.{netOf, tablesOf}
 use Rattle.drawing.specs.Reading.{found, tableOf}
-use Rattle.drawing.specs.declared.Head.{Head}
 use Rattle.walking.specs.declared.Ordering.the-variants as made
-use Rattle.walking.specs.Promises.{LoopRuling}
 use Rattle.taking.specs.declared.Taking.{Taking}
 use Rattle.taking.specs.declared.Taking.the-variants as taking
 use Rattle.taking.specs.Judged.{Says}
-use Rattle.taking.proofs.Judged.{says-one}
+use Rattle.taking.proofs.Judged.{says-one, free-of}
 use Rattle.sheet.specs.Sheet.{Sheet}
 use Rattle.listing.specs.Text.{listingOf, refusedLine}
 use Rattle.listing.specs.Puts.{Wrote}
@@ -41,12 +38,6 @@ filled-one one (Filled.short low r e) (Filled.written y high t w) = absurd (omeg
 filled-one one (Filled.written x high t w) (Filled.short low q f) = absurd (omega arith)
 filled-one one (Filled.written x high t w) (Filled.written y high′ u v) = wrote-one w v (one x y t u)
 
--- a table taken reads whole and has no loop
-free-of : {s : List ℕ} {t : Taking} {h : Head} {n : ℕ} → Says s t → t ≡ taking.Taken h n → (found s .verdict ≡ Sound) × LoopRuling (netOf (tableOf s)) made.Whole
-free-of (Says.refused e) same = let z : _≡_ {A = ℕ} 0 1 = cc in absurd (omega arith)
-free-of (Says.ordered {o = made.Whole} e ruling) same = (e, ruling)
-free-of (Says.ordered {o = made.LoopAt g} e ruling) same = let z : _≡_ {A = ℕ} 0 1 = cc in absurd (omega arith)
-
 -- sheets that differ in their evidence at most
 module _ {s : List ℕ} (taken : Taken s) {Asked Other : (ℕ → ℕ) → ℕ → List (List ℕ) → Type 0} {a b : Sheet} where
   settled-one : SheetWith Asked (netOf (tableOf s)) (tablesOf (tableOf s)) (headK s) (found s .outputs) a →
@@ -61,10 +52,10 @@ module _ {s : List ℕ} (taken : Taken s) {Asked Other : (ℕ → ℕ) → ℕ �
       (outputs-are-nodes s whole) x y))
 
 refusalLine : Taking → List ℕ
-refusalLine (taking.Taken h n) = []
+refusalLine (taking.Taken n) = []
 refusalLine (taking.Refused x) = refusedLine (number x) (place x)
 refusalLine (taking.LoopAt g) = refusedLine 7 (g .id)
-refusalLine taking.Lent = []
+refusalLine taking.TooShort = []
 
 apart : {s : List ℕ} {t u : Taking} {A : Type 0} → Says s t → Says s u → (t ≡ u → _≡_ {A = ℕ} 0 1) → A
 apart x y clash = let z = clash (says-one x y) in absurd (omega arith)

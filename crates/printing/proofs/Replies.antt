@@ -8,7 +8,8 @@ use Rattle.listing.specs.Puts.{Wrote}
 use Rattle.inspecting.specs.declared.Inspection.{Inspection}
 use Rattle.inspecting.specs.Inspecting.{Inspects}
 use Rattle.printing.specs.Filled.{Filled}
-use Rattle.printing.specs.Reports.{lineRoom, lineOf, Reports}
+use Rattle.listing.specs.Arrays.{lineRoom}
+use Rattle.printing.specs.Reports.{lineOf, Reports}
 
 pub refused-as : {number place a b : ℕ} {before : List ℕ} {r : ℕ} {after : List ℕ} → a ≡ number → b ≡ place → Wrote before (refusedLine a b) r after →
     Wrote before (refusedLine number place) r after

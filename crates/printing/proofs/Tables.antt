@@ -1,14 +1,15 @@
 -- From what `take_table` answers to what `list` promises.
-use Prim.Native.Nat.{ℕ, _≤_}
-use native.Mathlib.Omega.{arith}
-use mathlib.Core.Path.{_≡_, refl, sym, subst}
+use Prim.Native.Nat.{ℕ, _+_, _≤_}
+use mathlib.Core.Path.{_≡_, refl, ap, sym, subst}
 use mathlib.Core.List.{List}
 use lib.ListN.{length}
-use Rattle.drawing.specs.declared.Head.{Head}
-use Rattle.drawing.specs.declared.Node.{Node}
+use Rattle.storage.specs.declared.Node.{Node}
+use Rattle.storage.specs.declared.Numbers.{Numbers}
 use Rattle.drawing.specs.declared.Refusal.{Refusal}
 use Rattle.drawing.specs.Refusals.{number, place}
-use Rattle.drawing.specs.Reading.{found, tableOf, headOf}
+use Rattle.drawing.specs.Limits.{mostOutputs}
+use Rattle.drawing.specs.Fields.{headI}
+use Rattle.drawing.specs.Reading.{tableOf, numbersOf}
 use Rattle.drawing.proofs.SoundTables.{table-sound}
 use Rattle.taking.specs.declared.Taking.{Taking}
 use Rattle.taking.specs.declared.Taking.the-variants as taking
@@ -20,28 +21,27 @@ use Rattle.mapping.proofs.Mapped.{taken-asked, sheet-of-table}
 use Rattle.printing.specs.Filled.{Filled}
 use Rattle.printing.specs.Lists.{textRoom, Listing, Lists, ListAsked, TakenListed}
 
-module _ {s fan count rows outputs order : List ℕ} (ready : Ready s fan count rows outputs order) where
-  pub list-asked : {h : Head} {n : ℕ} {text : List ℕ} → h ≡ headOf s → n ≡ length (found s .outputs) → textRoom ≤ length text →
-      ListAsked h n fan count rows outputs order text
-  list-asked head number long =
-      record { taken = taken-asked ready head number; few = omega (arith, number, table-sound s (ready .whole) .few); room = long }
+module _ {s fanins rows outputs order : List ℕ} (ready : Ready s fanins rows outputs order) where
+  pub list-asked : {n : Numbers} {text : List ℕ} → n ≡ numbersOf s → textRoom ≤ length text → ListAsked n fanins rows order outputs text
+  list-asked is long =
+      let few = table-sound s (ready .whole) .few in
+      record { taken = taken-asked ready is; few = subst (λ (m : Numbers). m .roots ≤ mostOutputs) (sym is) few; room = long }
 
-  lists-headed : {before : List ℕ} {r : ℕ} {after : List ℕ} → textRoom ≤ length before →
-      TakenListed (headOf s) (length (found s .outputs)) fan count rows outputs before r after → Lists s before r after
-  lists-headed long done =
+  lists-numbered : {before : List ℕ} {r : ℕ} {after : List ℕ} → textRoom ≤ length before → TakenListed (numbersOf s) fanins rows outputs before r after →
+      Lists s before r after
+  lists-numbered long done =
+      let gates = ap (λ (g : ℕ). headI s + g) (table-sound s (ready .whole) .size) in
       Filled.written (listingOf (mappingOf (tableOf s) (done .sheet))) long
       (Listing.listed (done .sheet) (Says.ordered (ready .whole) (ready .no-loop)) (sheet-of-table ready (λ net lab t paths. Unit {0}) (done .settled)))
-      (done .text (tableOf s) (record { k = refl; inputs = refl; gates = table-sound s (ready .whole) .size; outputs-are = sym (ready .outputs-held) }))
+      (done .text (tableOf s) (record { k = refl; inputs = refl; gates = gates; outputs-are = sym (ready .outputs-held) }))
 
-  pub lists-taken : {h : Head} {n : ℕ} {before : List ℕ} {r : ℕ} {after : List ℕ} → h ≡ headOf s → n ≡ length (found s .outputs) → textRoom ≤ length before →
-      TakenListed h n fan count rows outputs before r after → Lists s before r after
-  lists-taken {h} {n} {before} {r} {after} head number long done =
-      lists-headed long
-      (subst (λ (m : ℕ). TakenListed (headOf s) m fan count rows outputs before r after) number
-      (subst (λ (g : Head). TakenListed g n fan count rows outputs before r after) head done))
+  pub lists-taken : {n : Numbers} {before : List ℕ} {r : ℕ} {after : List ℕ} → n ≡ numbersOf s → textRoom ≤ length before →
+      TakenListed n fanins rows outputs before r after → Lists s before r after
+  lists-taken {before = before} {r} {after} is long done =
+      lists-numbered long (subst (λ (m : Numbers). TakenListed m fanins rows outputs before r after) is done)
 
-pub lists-refused : {s before : List ℕ} {t : Taking} {x : Refusal} {r : ℕ} {after : List ℕ} → Says s t → t ≡ taking.Refused x → textRoom ≤ length before →
-    Wrote before (refusedLine (number x) (place x)) r after → Lists s before r after
+pub lists-refused : {s before : List ℕ} {t : Taking} {x : Refusal} {r : ℕ} {after : List ℕ} → Says s t → t ≡ taking.Refused x →
+    textRoom ≤ length before → Wrote before (refusedLine (number x) (place x)) r after → Lists s before r after
 lists-refused {s} {x = x} says is long wrote = Filled.written (refusedLine (number x) (place x)) long (Listing.refused (subst (Says s) is says)) wrote
 
 pub lists-loop : {s before : List ℕ} {t : Taking} {g : Node} {r : ℕ} {after : List ℕ} → Says s t → t ≡ taking.LoopAt g → textRoom ≤ length before →

@@ -2,15 +2,12 @@
 use Prim.Native.Nat.{ℕ}
 use mathlib.Core.Path.{_≡_}
 use mathlib.Core.List.{List}
+use Rattle.listing.specs.Arrays.{lineRoom}
 use Rattle.listing.specs.Text.{refusedLine, acceptedLine}
 use Rattle.inspecting.specs.declared.Inspection.{Inspection}
 use Rattle.inspecting.specs.declared.Inspection.the-variants.{Accepted, Refused, LoopAt, Shape, Cut, Label, Paths, Cover, Function, Depth}
 use Rattle.inspecting.specs.Inspecting.{number, place, Inspects}
 use Rattle.printing.specs.Filled.{Filled}
-
--- room for the longest line: two numbers of 20 digits
-abbrev pub lineRoom : ℕ
-lineRoom = 53
 
 -- "prints `accepted depth 2` or `refused 27 at 6`"
 abbrev pub lineOf : Inspection → List ℕ

@@ -1,6 +1,7 @@
 // What the programs print, from bytes to text in a lent buffer.
-use drawing::Head;
-use drawing::Node;
+use drawing::limits::MOST_NODES;
+use drawing::limits::MOST_OUTPUTS;
+use drawing::limits::MOST_PLACES;
 use drawing::refusals::number_of;
 use drawing::refusals::place_of;
 use inspecting::Inspection;
@@ -11,125 +12,102 @@ use listing::write_refused;
 use packing::map_gates;
 use sheet::faults::number_of_fault;
 use sheet::faults::place_of_fault;
+use storage::Node;
+use storage::Numbers;
 use taking::Taking;
 use taking::take_table;
 ghost use Prim.Native.Nat.{_≤_};
 ghost use lib.ListN.{length};
 ghost use Rattle.listing.specs.Text.{refusedLine};
 ghost use Rattle.listing.specs.Puts.{Wrote};
+ghost use Rattle.listing.specs.Arrays.{lineRoom};
 ghost use Rattle.printing.specs.Filled.{Front};
 ghost use Rattle.printing.specs.Lists.{ListAsked, TakenListed, Lists};
-ghost use Rattle.printing.specs.Reports.{lineRoom, lineOf, Reports};
+ghost use Rattle.printing.specs.Reports.{lineOf, Reports};
+
+// Room for the longest listing, and for the longest of the inspector's lines.
+pub const TEXT_ROOM: usize = 18595;
+
+pub const LINE_ROOM: usize = 53;
+
+// The links of the largest drawing in five columns, and its words in two.
+const MOST_LINKS: usize = 5 * MOST_NODES;
+
+const MOST_WORDS: usize = 2 * MOST_NODES;
 
 // Lists a table that was taken: stage one of the mapper, and its text. No evidence is looked for.
 fn list_taken(
-    head: Head,
-    number: usize,
-    fan: &[u16],
-    count: &[u8],
+    numbers: Numbers,
+    fanins: &[u16],
     rows: &[u64],
-    outputs: &[u16],
     order: &[u16],
+    outputs: &[u16],
     text: &mut [u8],
 ) -> usize
-    requires { ⌜ ListAsked head number (now fan) (now count) (now rows) (now outputs) (now order) (now text) ⌝ }
-    ensures { λ r. ⌜ TakenListed head number (now (fan .entry)) (now (count .entry)) (now (rows .entry)) (now (outputs .entry)) (now (text .entry)) r (now (text .exit)) ⌝ }
+    requires { ⌜ ListAsked numbers (now fanins) (now rows) (now order) (now outputs) (now text) ⌝ }
+    ensures { λ r. ⌜ TakenListed numbers (now (fanins .entry)) (now (rows .entry)) (now (outputs .entry)) (now (text .entry)) r (now (text .exit)) ⌝ }
 {
-    let mut labels = [0u16; 192];
-    let mut leaves = [0u16; 1152];
-    let mut sizes = [0u8; 192];
-    let mut walked = [0u8; 192];
-    let mut met = [0u8; 192];
-    let mut deep = [0u8; 192];
-    let mut area = [0u8; 192];
-    let mut ends = [0u8; 192];
-    let mut next = [0u16; 192];
-    let mut prev = [0u16; 192];
-    let mut ins = [0u16; 192];
-    let mut outs = [0u16; 192];
-    let mut parent = [0u16; 192];
-    let mut roots = [0u8; 192];
-    let mut values = [0u64; 192];
-    let mut tables = [0u64; 192];
-    let k = head.k;
-    let inputs = head.inputs;
-    let nodes = inputs + head.gates;
+    let mut labels = [0u16; MOST_NODES];
+    let mut cuts = [0u16; MOST_PLACES];
+    let mut roles = [0u8; MOST_NODES];
+    let mut links = [0u16; MOST_LINKS];
+    let mut luts = [0u8; MOST_NODES];
+    let mut words = [0u64; MOST_WORDS];
     let made = map_gates(
-        fan,
-        count,
+        numbers,
+        fanins,
         rows,
-        inputs,
-        nodes,
-        k,
         order,
         outputs,
-        number,
         &mut labels,
-        &mut leaves,
-        &mut sizes,
-        &mut walked,
-        &mut met,
-        &mut deep,
-        &mut area,
-        &mut ends,
-        &mut next,
-        &mut prev,
-        &mut ins,
-        &mut outs,
-        &mut parent,
-        &mut roots,
-        &mut values,
-        &mut tables,
+        &mut cuts,
+        &mut roles,
+        &mut links,
+        &mut luts,
+        &mut words,
     );
+    let tables_at = numbers.nodes;
     list_mapping(
-        k,
-        inputs,
-        nodes,
+        numbers,
         &labels,
-        &leaves,
-        &sizes,
-        &roots,
-        &tables,
+        &cuts,
+        &luts,
+        &words[tables_at..],
         outputs,
-        number,
         made.luts,
         made.depth,
         text,
     )
 }
 
-// The lister's text of a gate table, at the front of the text buffer, and its length. 18,595 bytes hold every listing; a buffer that is shorter
-// is left as it was, and the answer is 0.
+// The lister's text of a gate table, at the front of the text buffer, and its length. A buffer without room for the longest listing is left
+// as it was, and the answer is 0.
 pub fn list(table: &[u8], text: &mut [u8]) -> usize
     ensures { λ r. ⌜ Lists (now (table .entry)) (now (text .entry)) r (now (text .exit)) ⌝ }
     ensures { λ r. ⌜ Front r (now (text .exit)) ⌝ }
 {
-    if text.len() < 18595 {
+    if text.len() < TEXT_ROOM {
         return 0;
     }
-    let mut fan = [0u16; 1152];
-    let mut count = [0u8; 192];
-    let mut rows = [0u64; 192];
-    let mut outputs = [0u16; 64];
-    let mut order = [0u16; 192];
-    let mut marks = [0u8; 192];
+    let mut fanins = [0u16; MOST_PLACES];
+    let mut rows = [0u64; MOST_NODES];
+    let mut outputs = [0u16; MOST_OUTPUTS];
+    let mut order = [0u16; MOST_NODES];
+    let mut marks = [0u8; MOST_NODES];
     let taken = take_table(
         table,
-        &mut fan,
-        &mut count,
+        &mut fanins,
         &mut rows,
         &mut outputs,
         &mut order,
         &mut marks,
     );
     match taken {
-        Taking::Taken(head, number) => {
-            list_taken(head, number, &fan, &count, &rows, &outputs, &order, text)
-        }
+        Taking::Taken(numbers) => list_taken(numbers, &fanins, &rows, &order, &outputs, text),
         Taking::Refused(r) => write_refused(number_of(r), place_of(r), text),
         Taking::LoopAt(gate) => write_refused(7, gate.id as u64, text),
         // never given: the arrays have the lengths that `take_table` asks
-        Taking::Lent => 0,
+        Taking::TooShort => 0,
     }
 }
 
@@ -162,13 +140,13 @@ fn write_reply(reply: Inspection, text: &mut [u8]) -> usize
     }
 }
 
-// The inspector's line on a gate table and a sheet, at the front of the text buffer, and its length. 53 bytes hold every line; a buffer that is
-// shorter is left as it was, and the answer is 0.
+// The inspector's line on a gate table and a sheet, at the front of the text buffer, and its length. A buffer without room for the
+// longest line is left as it was, and the answer is 0.
 pub fn report(table: &[u8], sheet: &[u8], text: &mut [u8]) -> usize
     ensures { λ r. ⌜ Reports (now (table .entry)) (now (sheet .entry)) (now (text .entry)) r (now (text .exit)) ⌝ }
     ensures { λ r. ⌜ Front r (now (text .exit)) ⌝ }
 {
-    if text.len() < 53 {
+    if text.len() < LINE_ROOM {
         return 0;
     }
     let reply = inspect(table, sheet);

@@ -1,19 +1,21 @@
 -- Runs of fields, one field at a time, and the ruling on a sheet from the rulings on its runs.
-use Prim.Native.Nat.{ℕ, suc, _+_, _-_, _<_, _≤_}
+use Prim.Native.Nat.{ℕ, _+_, _-_, _<_, _≤_}
 use native.Mathlib.Omega.{arith}
 use mathlib.Core.Path.{_≡_, refl, ap, sym, _∙_}
-use mathlib.Core.Bool.{Bool, true, false, not, cond}
+use mathlib.Core.Bool.{cond}
 use mathlib.Core.List.{List}
 use borrow.Author.Tests.{lt-ltb, le-ltb, eqb-true, not-false}
 use lib.ListN.{length}
 use lib.Dec.{ltb, eqb}
-use Rattle.drawing.specs.Bytes.{numberAt, lengthAt}
+use Rattle.drawing.specs.Bytes.{lengthAt}
 use Rattle.sheet.specs.declared.Fault.{Fault}
 use Rattle.sheet.specs.declared.Fault.the-variants.{Extra}
 use Rattle.sheet.specs.declared.Ruling.{Ruling}
 use Rattle.sheet.specs.declared.Ruling.the-variants.{Sound, Faulty}
 use Rattle.sheet.specs.Sheet.{Line, Lut}
-use Rattle.sheet.specs.Shape.{Due, endAt, countAt, headRuling, lineAt, lineRuling, lineLengthWrong, lineRange, lutAt, lutRuling, lutLengthWrong, lutRange, leavesEnd, lutCut, Fields, andField, linesFrom, lutsFrom, afterHead, afterLines, afterLuts, reading}
+use Rattle.sheet.specs.Shape.{Due, endAt, countAt, headRuling, lineAt, lineRuling, lineLengthWrong, lineRange, lutAt}
+use Rattle.sheet.specs.Shape.{lutRuling, lutLengthWrong, lutRange, leavesEnd, lutCut, Fields, andField, linesFrom}
+use Rattle.sheet.specs.Shape.{lutsFrom, afterHead, afterLines, afterLuts, reading}
 use Rattle.shaping.specs.declared.runs.Reached.{Reached}
 use Rattle.shaping.specs.declared.runs.Reached.the-variants.{Place, FaultyFor}
 use Rattle.shaping.specs.Numbers.{SmallAt}

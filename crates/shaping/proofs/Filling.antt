@@ -11,9 +11,10 @@ use Rattle.drawing.specs.Bytes.{numberAt}
 use Rattle.sheet.specs.Sheet.{Line, Lut, noLine}
 use Rattle.sheet.specs.Shape.{Due, idsAt, lineAt, lutAt}
 use Rattle.sheet.specs.Rules.{lineOfNode, isListed, leavesListed, tableListed}
-use Rattle.shaping.specs.Loading.{Filled, sixes, placeOf, LineArrays, lineArrays, LineRoom, LinePut, LinesFilled, Listed, noneListed, lutListed, listedAt, LutArrays, lutArrays, LutRoom, LutPut, LutsFilled}
+use Rattle.shaping.specs.Loading.{Filled, counted, sevens, placeOf, LineArrays, lineArrays, LineRoom, LinePut}
+use Rattle.shaping.specs.Loading.{LinesFilled, Listed, noneListed, lutListed, listedAt, LutArrays, lutArrays}
+use Rattle.shaping.specs.Loading.{LutRoom, LutPut, LutsFilled}
 use Rattle.shaping.specs.Numbers.{SmallAt}
-use Rattle.shaping.proofs.Ids.{length-ids-at}
 
 module _ (before : List ℕ) (low : ℕ) (f : ℕ → ℕ) where
   pub filled-none : Filled before low low f before
@@ -75,24 +76,25 @@ entry-more : {before between after : List ℕ} {low : ℕ} {f : ℕ → ℕ} (v 
     after ≡ set between v x → x ≡ f v → Filled before low (v + 1) f after
 entry-more v x least room one stored same = rw stored (filled-set v x least (omega (arith, room)) same one)
 
--- one node's six places
-sixes-more : {before between after : List ℕ} {low : ℕ} (g : ℕ → List ℕ) (v : ℕ) (vs : List ℕ) → low ≤ v → Filled before (6 * low) (6 * v) (sixes g) between →
-    Filled between (6 * v) (6 * v + 6) (λ i. getD vs (i - 6 * v) 0) after → vs ≡ g v → Filled before (6 * low) (6 * (v + 1)) (sixes g) after
-sixes-more g v vs least one six same =
+-- one node's seven places
+sevens-more : {before between after : List ℕ} {low : ℕ} (g : ℕ → List ℕ) (v : ℕ) (vs : List ℕ) → low ≤ v →
+    Filled before (7 * low) (7 * v) (sevens g) between →
+    Filled between (7 * v) (7 * v + 7) (λ i. getD (counted vs) (i - 7 * v) 0) after → vs ≡ g v →
+    Filled before (7 * low) (7 * (v + 1)) (sevens g) after
+sevens-more g v vs least one seven same =
     filled-to (omega arith)
-    (filled-then (6 * v) (6 * v + 6) (omega (arith, least)) (omega arith) one six
+    (filled-then (7 * v) (7 * v + 7) (omega (arith, least)) (omega arith) one seven
     (λ i more less.
-    let node : v ≡ i / 6 = omega (arith, more, less) in
-    let place : i - 6 * v ≡ i % 6 = omega (arith, more, less) in
-    (λ j. getD (same j) (i - 6 * v) 0) ∙ (λ j. getD (g (node j)) (place j) 0)))
+    let node : v ≡ i / 7 = omega (arith, more, less) in
+    let place : i - 7 * v ≡ i % 7 = omega (arith, more, less) in
+    (λ j. getD (counted (same j)) (i - 7 * v) 0) ∙ (λ j. getD (counted (g (node j))) (place j) 0)))
 
 module _ {inputs : ℕ} {s : List ℕ} {lines : List Line} where
   pub lines-begin : (low : ℕ) (a : LineArrays) → LinesFilled inputs s lines a low low a
   lines-begin low a =
       record {
         labels = filled-none (a .labels) low (λ v. lineOfNode inputs lines v .label);
-        leaves = filled-none (a .leaves) (6 * low) (sixes (λ v. lineOfNode inputs lines v .leaves));
-        sizes = filled-none (a .sizes) low (λ v. length (lineOfNode inputs lines v .leaves));
+        cuts = filled-none (a .cuts) (7 * low) (sevens (λ v. lineOfNode inputs lines v .leaves));
         places = filled-none (a .places) low (placeOf inputs s);
       }
 
@@ -102,10 +104,9 @@ module _ {inputs : ℕ} {s : List ℕ} {lines : List Line} where
   lines-put {v = v} {line = line} {place = place} least room one put same there =
       record {
         labels = entry-more v (line .label) least (room .labels) (one .labels) (put .labels) (ap (λ (l : Line). l .label) same);
-        leaves =
-            sixes-more (λ u. lineOfNode inputs lines u .leaves) v (line .leaves) least (one .leaves) (put .leaves)
+        cuts =
+            sevens-more (λ u. lineOfNode inputs lines u .leaves) v (line .leaves) least (one .cuts) (put .cuts)
             (ap (λ (l : Line). l .leaves) same);
-        sizes = entry-more v (length (line .leaves)) least (room .sizes) (one .sizes) (put .sizes) (ap (λ (l : Line). length (l .leaves)) same);
         places = entry-more v place least (room .places) (one .places) (put .places) there;
       }
 
@@ -118,8 +119,7 @@ module _ {inputs : ℕ} {s : List ℕ} {lines : List Line} where
   lines-join {mid = mid} {high = high} low-mid mid-high one two =
       record {
         labels = filled-then mid high low-mid mid-high (one .labels) (two .labels) (λ i more less. refl);
-        leaves = filled-then (6 * mid) (6 * high) (omega (arith, low-mid)) (omega (arith, mid-high)) (one .leaves) (two .leaves) (λ i more less. refl);
-        sizes = filled-then mid high low-mid mid-high (one .sizes) (two .sizes) (λ i more less. refl);
+        cuts = filled-then (7 * mid) (7 * high) (omega (arith, low-mid)) (omega (arith, mid-high)) (one .cuts) (two .cuts) (λ i more less. refl);
         places = filled-then mid high low-mid mid-high (one .places) (two .places) (λ i more less. refl);
       }
 
@@ -129,8 +129,7 @@ module _ {inputs : ℕ} {s : List ℕ} {lines : List Line} where
   lines-room v few room one =
       record {
         labels = omega (arith, few, room .labels, one .labels .as-long);
-        leaves = omega (arith, few, room .leaves, one .leaves .as-long);
-        sizes = omega (arith, few, room .sizes, one .sizes .as-long);
+        cuts = omega (arith, few, room .cuts, one .cuts .as-long);
         places = omega (arith, few, room .places, one .places .as-long);
       }
 
@@ -138,17 +137,15 @@ pub line-room : {nodes : ℕ} {a : LineArrays} (v : ℕ) → v ≤ nodes → Lin
 line-room v few room =
     record {
       labels = omega (arith, few, room .labels);
-      leaves = omega (arith, few, room .leaves);
-      sizes = omega (arith, few, room .sizes);
+      cuts = omega (arith, few, room .cuts);
       places = omega (arith, few, room .places);
     }
 
 pub lut-room : {nodes : ℕ} {a : LutArrays} (v : ℕ) → v ≤ nodes → LutRoom nodes a → LutRoom v a
 lut-room v few room =
     record {
-      roots = omega (arith, few, room .roots);
-      leaves = omega (arith, few, room .leaves);
-      sizes = omega (arith, few, room .sizes);
+      luts = omega (arith, few, room .luts);
+      cuts = omega (arith, few, room .cuts);
       tables = omega (arith, few, room .tables);
     }
 
@@ -159,9 +156,8 @@ module _ {luts : List Lut} where
   pub luts-begin : (a : LutArrays) → LutsFilled luts a 0 a
   luts-begin a =
       record {
-        roots = filled-none (a .roots) 0 (λ v. bit (isListed luts v));
-        leaves = filled-to (omega arith) (filled-none (a .leaves) 0 (sixes (leavesListed luts)));
-        sizes = filled-none (a .sizes) 0 (λ v. length (leavesListed luts v));
+        luts = filled-none (a .luts) 0 (λ v. bit (isListed luts v));
+        cuts = filled-to (omega arith) (filled-none (a .cuts) 0 (sevens (leavesListed luts)));
         tables = filled-none (a .tables) 0 (tableListed luts);
       }
 
@@ -169,9 +165,8 @@ module _ {luts : List Lut} where
       LutPut (listedAt luts v) v between after → LutsFilled luts before (v + 1) after
   luts-put {v = v} room one put =
       record {
-        roots = entry-more v (bit (isListed luts v)) (omega arith) (room .roots) (one .roots) (put .roots) refl;
-        leaves = sixes-more {low = 0} (leavesListed luts) v (leavesListed luts v) (omega arith) (one .leaves) (put .leaves) refl;
-        sizes = entry-more v (length (leavesListed luts v)) (omega arith) (room .sizes) (one .sizes) (put .sizes) refl;
+        luts = entry-more v (bit (isListed luts v)) (omega arith) (room .luts) (one .luts) (put .luts) refl;
+        cuts = sevens-more {low = 0} (leavesListed luts) v (leavesListed luts v) (omega arith) (one .cuts) (put .cuts) refl;
         tables = entry-more v (tableListed luts v) (omega arith) (room .tables) (one .tables) (put .tables) refl;
       }
 
@@ -182,51 +177,45 @@ module _ {luts : List Lut} where
       LutRoom v after
   luts-room v few room one =
       record {
-        roots = omega (arith, few, room .roots, one .roots .as-long);
-        leaves = omega (arith, few, room .leaves, one .leaves .as-long);
-        sizes = omega (arith, few, room .sizes, one .sizes .as-long);
+        luts = omega (arith, few, room .luts, one .luts .as-long);
+        cuts = omega (arith, few, room .cuts, one .cuts .as-long);
         tables = omega (arith, few, room .tables, one .tables .as-long);
       }
 
 -- the stores of one node are its line, or its LUT
-module _ (s : List ℕ) (v : ℕ) {leaves leaves′ : List ℕ} (bare : Filled leaves (6 * v) (6 * v + 6) (λ i. getD (idsAt s 0 1 0) (i - 6 * v) 0) leaves′) where
-  pub no-line-put : {labels sizes places : List ℕ} →
-      LinePut noLine 0 v (lineArrays labels leaves sizes places) (lineArrays (set labels v 0) leaves′ (set sizes v 0) (set places v 0))
+module _ (s : List ℕ) (v : ℕ) {cuts cuts′ : List ℕ}
+    (bare : Filled cuts (7 * v) (7 * v + 7) (λ i. getD (counted (idsAt s 0 1 0)) (i - 7 * v) 0) cuts′) where
+  pub no-line-put : {labels places : List ℕ} → LinePut noLine 0 v (lineArrays labels cuts places) (lineArrays (set labels v 0) cuts′ (set places v 0))
   unfolding idsAt
-  no-line-put = record { labels = refl; leaves = bare; sizes = refl; places = refl }
+  no-line-put = record { labels = refl; cuts = bare; places = refl }
 
-  pub no-lut-put : {roots sizes tables : List ℕ} →
-      LutPut noneListed v (lutArrays roots leaves sizes tables) (lutArrays (set roots v 0) leaves′ (set sizes v 0) (set tables v 0))
+  pub no-lut-put : {luts tables : List ℕ} → LutPut noneListed v (lutArrays luts cuts tables) (lutArrays (set luts v 0) cuts′ (set tables v 0))
   unfolding idsAt
-  no-lut-put = record { roots = refl; leaves = bare; sizes = refl; tables = refl }
+  no-lut-put = record { luts = refl; cuts = bare; tables = refl }
 
-module _ (due : Due) (s : List ℕ) (at v : ℕ) {count : ℕ} (counted : SmallAt s (at + 3 + due .form .width) 1 count) {leaves leaves′ : List ℕ}
-    (put : Filled leaves (6 * v) (6 * v + 6) (λ i. getD (idsAt s (at + 3 + due .form .width + 1) (due .form .width) count) (i - 6 * v) 0) leaves′) where
-  as-read : Filled leaves (6 * v) (6 * v + 6) (λ i. getD (lineAt due s at .leaves) (i - 6 * v) 0) leaves′
+module _ (due : Due) (s : List ℕ) (at v : ℕ) {count : ℕ} (count-read : SmallAt s (at + 3 + due .form .width) 1 count) {cuts cuts′ : List ℕ}
+    (put :
+    Filled cuts (7 * v) (7 * v + 7)
+    (λ i. getD (counted (idsAt s (at + 3 + due .form .width + 1) (due .form .width) count)) (i - 7 * v) 0) cuts′) where
+  as-read : Filled cuts (7 * v) (7 * v + 7) (λ i. getD (counted (lineAt due s at .leaves)) (i - 7 * v) 0) cuts′
   as-read =
       subst
-      (λ (n : ℕ). Filled leaves (6 * v) (6 * v + 6) (λ i. getD (idsAt s (at + 3 + due .form .width + 1) (due .form .width) n) (i - 6 * v) 0) leaves′)
-      (counted .number) put
+      (λ (n : ℕ).
+      Filled cuts (7 * v) (7 * v + 7)
+      (λ i. getD (counted (idsAt s (at + 3 + due .form .width + 1) (due .form .width) n)) (i - 7 * v) 0) cuts′)
+      (count-read .number) put
 
-  many : count ≡ length (lineAt due s at .leaves)
-  many = counted .number ∙ sym (length-ids-at s (at + 3 + due .form .width + 1) (due .form .width) (numberAt s (at + 3 + due .form .width) 1))
+  pub line-put : {label : ℕ} → SmallAt s (at + 3) (due .form .width) label → {labels places : List ℕ} →
+      LinePut (lineAt due s at) at v (lineArrays labels cuts places) (lineArrays (set labels v label) cuts′ (set places v at))
+  line-put labelled {labels} {places} = record { labels = ap (set labels v) (labelled .number); cuts = as-read; places = refl }
 
-  pub line-put : {label : ℕ} → SmallAt s (at + 3) (due .form .width) label → {labels sizes places : List ℕ} →
-      LinePut (lineAt due s at) at v (lineArrays labels leaves sizes places) (lineArrays (set labels v label) leaves′ (set sizes v count) (set places v at))
-  line-put labelled {labels} {sizes} {places} =
+  pub lut-put : {table : ℕ} → table ≡ numberAt s (at + 3 + due .form .width + 1 + count * due .form .width) 8 → {luts tables : List ℕ} →
+      LutPut (lutListed (lutAt due s at)) v (lutArrays luts cuts tables) (lutArrays (set luts v 1) cuts′ (set tables v table))
+  lut-put rows {luts} {tables} =
       record {
-        labels = ap (set labels v) (labelled .number);
-        leaves = as-read;
-        sizes = ap (set sizes v) many;
-        places = refl;
-      }
-
-  pub lut-put : {table : ℕ} → table ≡ numberAt s (at + 3 + due .form .width + 1 + count * due .form .width) 8 → {roots sizes tables : List ℕ} →
-      LutPut (lutListed (lutAt due s at)) v (lutArrays roots leaves sizes tables) (lutArrays (set roots v 1) leaves′ (set sizes v count) (set tables v table))
-  lut-put rows {roots} {sizes} {tables} =
-      record {
-        roots = refl;
-        leaves = as-read;
-        sizes = ap (set sizes v) many;
-        tables = ap (set tables v) (rows ∙ ap (λ (n : ℕ). numberAt s (at + 3 + due .form .width + 1 + n * due .form .width) 8) (counted .number));
+        luts = refl;
+        cuts = as-read;
+        tables =
+            ap (set tables v)
+            (rows ∙ ap (λ (n : ℕ). numberAt s (at + 3 + due .form .width + 1 + n * due .form .width) 8) (count-read .number));
       }

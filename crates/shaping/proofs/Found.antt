@@ -12,7 +12,9 @@ use Rattle.sheet.specs.declared.Fault.the-variants.{Extra}
 use Rattle.sheet.specs.declared.Ruling.{Ruling}
 use Rattle.sheet.specs.declared.Ruling.the-variants.{Sound, Faulty}
 use Rattle.sheet.specs.Sheet.{Line, Lut, Sheet, noLine}
-use Rattle.sheet.specs.Shape.{Due, endAt, depthAt, countAt, headRuling, lineAt, lineRuling, lutAt, lutRuling, leavesRange, Fields, andField, linesFrom, lutsFrom, afterHead, afterLines, afterLuts, reading}
+use Rattle.sheet.specs.Shape.{Due, endAt, depthAt, countAt, headRuling, lineAt, lineRuling, lutAt, lutRuling}
+use Rattle.sheet.specs.Shape.{leavesRange, Fields, andField, linesFrom, lutsFrom, afterHead, afterLines, afterLuts}
+use Rattle.sheet.specs.Shape.{reading}
 use Rattle.sheet.specs.Rules.{lineOfNode, isListed, leavesListed, tableListed}
 use Rattle.shaping.specs.Loading.{startOf, placeOf, LineArrays, LineRoom, LinePut, LinesFilled, noneListed, lutListed, listedAt, LutArrays, LutsFilled}
 use Rattle.shaping.specs.Terms.{Narrow}
@@ -238,7 +240,11 @@ module _ (due : Due) (s : List ℕ) where
       some-left = by left refl
         where
           by : (n : ℕ) → left ≡ n → 0 < left
-          by zero e = let last : r ≡ due .nodes = next ∙ ap (λ (b : Bool). cond b (due .nodes) (numberAt s (valueAt at) (due .form .width))) (eq-eqb left 0 e) in absurd (omega (arith, node, here, last))
+          by zero e =
+              let last : r ≡ due .nodes =
+              next
+              ∙ ap (λ (b : Bool). cond b (due .nodes) (numberAt s (valueAt at) (due .form .width))) (eq-eqb left 0 e) in
+              absurd (omega (arith, node, here, last))
           by (suc n) e = omega (arith, e)
 
       rooted : lutAt due s at .root ≡ v

@@ -6,40 +6,47 @@ use mathlib.Core.Path.{_≡_, ap, sym, _∙_}
 use mathlib.Core.Bool.{Bool, true, false, not, _||_, cond}
 use mathlib.Core.List.{List}
 use borrow.Author.Tests.{ltb-false}
-use lib.ListN.{length, getD, take, drop, length-drop}
-use lib.Seq.{length-take-le, getD-take, getD-drop, ext-getD}
+use lib.ListN.{length, getD}
+use lib.Seq.{ext-getD}
 use lib.Dec.{ltb, leb, eqb}
 use Rattle.theory.specs.Evidence.{joined}
+use Rattle.storage.specs.Lists.{sizeAt, listAt}
+use Rattle.storage.proofs.InLists.{list-size, list-entry}
 use Rattle.drawing.specs.Bytes.{someFrom}
 use Rattle.sheet.specs.declared.Ruling.the-variants.{Sound}
 use Rattle.sheet.specs.Sheet.{Line, Lut, Sheet}
 use Rattle.sheet.specs.Shape.{Due, endAt, rising, someEmpty, leavesRange, lineRange, lutRange, lineAt, lutAt, lineRuling, lutRuling, countAt, lutsFrom, reading}
 use Rattle.sheet.specs.Rules.{lineOfNode, leavesListed}
 use Rattle.sheet.specs.Arrays.{HoldsLines, HoldsPlaces, HoldsLuts}
-use Rattle.shaping.specs.Loading.{Filled, sixes, startOf, LineArrays, lineArrays, LineRoom, LutArrays, lutArrays, LutRoom, Loadable, Loaded}
+use Rattle.shaping.specs.Loading.{Filled, counted, sevens, startOf, LineArrays, lineArrays, LineRoom, LutArrays, lutArrays, LutRoom, Loadable, Loaded}
 use Rattle.shaping.proofs.Values.{or-none}
 use Rattle.shaping.proofs.FieldRuns.{line-kept, lut-kept}
 use Rattle.shaping.proofs.Filling.{filled-one}
 use Rattle.shaping.proofs.Found.{first-sound, rest-sound, all-read, theLines, Whole, whole, input-line, gate-place, GateFound, gate-found}
 
--- the six places of a node hold its leaves
-six-cut : (a vs : List ℕ) (v : ℕ) → length vs ≤ 6 → 6 * v + 6 ≤ length a → ((i : ℕ) → i < 6 → getD a (6 * v + i) 0 ≡ getD vs i 0) →
-    take (length vs) (drop (6 * v) a) ≡ vs
-six-cut a vs v few room same =
-    let inside : length vs ≤ length (drop (6 * v) a) = omega (arith, length-drop (6 * v) a, few, room) in
-    let size : length (take (length vs) (drop (6 * v) a)) ≡ length vs = length-take-le (length vs) (drop (6 * v) a) inside in
-    ext-getD 0 (take (length vs) (drop (6 * v) a)) vs size
-    (λ i less.
-    getD-take (length vs) (drop (6 * v) a) i 0 (omega (arith, less, size))
-    ∙ getD-drop (6 * v) a i 0
-    ∙ same i (omega (arith, less, size, few)))
+-- the seven places of a node hold its list
+seven-at : {before a : List ℕ} {nodes : ℕ} (g : ℕ → List ℕ) → Filled before 0 (7 * nodes) (sevens g) a → (v i : ℕ) → v < nodes → i < 7 →
+    getD a (7 * v + i) 0 ≡ getD (counted (g v)) i 0
+seven-at g filled v i node place =
+    let same : (7 * v + i) / 7 ≡ v = omega (arith, place) in
+    let rest : (7 * v + i) % 7 ≡ i = omega (arith, place) in
+    filled .filled (7 * v + i) (omega arith) (omega (arith, node, place)) ∙ (λ j. getD (counted (g (same j))) (rest j) 0)
 
-six-at : {before a : List ℕ} {nodes : ℕ} (g : ℕ → List ℕ) → Filled before 0 (6 * nodes) (sixes g) a → (v i : ℕ) → v < nodes → i < 6 →
-    getD a (6 * v + i) 0 ≡ getD (g v) i 0
-six-at g filled v i node place =
-    let same : (6 * v + i) / 6 ≡ v = omega (arith, place) in
-    let rest : (6 * v + i) % 6 ≡ i = omega (arith, place) in
-    filled .filled (6 * v + i) (omega arith) (omega (arith, node, place)) ∙ (λ j. getD (g (same j)) (rest j) 0)
+module _ {before a : List ℕ} {nodes : ℕ} (g : ℕ → List ℕ) (filled : Filled before 0 (7 * nodes) (sevens g) a) (long : 7 * nodes ≤ length a)
+    (v : ℕ) (node : v < nodes) (few : length (g v) ≤ 6) where
+  size-held : sizeAt a v ≡ length (g v)
+  size-held = ap (λ (i : ℕ). getD a i 0) (omega arith) ∙ seven-at g filled v 0 node (omega arith)
+
+  list-held : listAt a v ≡ g v
+  list-held =
+      let six : sizeAt a v ≤ 6 = omega (arith, size-held) in
+      let size : length (listAt a v) ≡ length (g v) = list-size a v (omega arith) six ∙ size-held in
+      ext-getD 0 (listAt a v) (g v) size
+      (λ i less.
+      let low : i < sizeAt a v = omega (arith, size, size-held) in
+      list-entry a v (omega arith) six i low
+      ∙ ap (λ (j : ℕ). getD a j 0) (omega arith)
+      ∙ seven-at g filled v (suc i) node (omega arith))
 
 leaves-few : (due : Due) (vs : List ℕ) → leavesRange due vs ≡ false → length vs ≤ due .k
 leaves-few due vs ranged =
@@ -93,23 +100,19 @@ module _ {due : Due} {s : List ℕ} {a a′ : LineArrays} {b b′ : LutArrays} {
   everything : Whole due s
   everything = whole due s (loadable .sound)
 
-  pub holds-lines : LineRoom (due .nodes) a → HoldsLines (due .inputs) (due .nodes) (reading due s .sheet .lines) (a′ .labels) (a′ .leaves) (a′ .sizes)
+  pub holds-lines : LineRoom (due .nodes) a → HoldsLines (due .inputs) (due .nodes) (reading due s .sheet .lines) (a′ .labels) (a′ .cuts)
   holds-lines room =
       let lines = reading due s .sheet .lines in
       let filled = loaded .lines in
       let leaves : ℕ → List ℕ = λ v. lineOfNode (due .inputs) lines v .leaves in
+      let few : (v : ℕ) → v < due .nodes → length (leaves v) ≤ 6 = λ v node. omega (arith, node-few due s everything v node, loadable .few) in
+      let long : 7 * due .nodes ≤ length (a′ .cuts) = omega (arith, room .cuts, filled .cuts .as-long) in
       record {
         labels-long = omega (arith, room .labels, filled .labels .as-long);
-        leaves-long = omega (arith, room .leaves, filled .leaves .as-long);
-        sizes-long = omega (arith, room .sizes, filled .sizes .as-long);
+        cuts-long = long;
         label = λ v node. filled .labels .filled v (omega arith) node;
-        cut =
-            λ v node.
-            ap (λ (n : ℕ). take n (drop (6 * v) (a′ .leaves))) (filled .sizes .filled v (omega arith) node)
-            ∙ six-cut (a′ .leaves) (leaves v) v (omega (arith, node-few due s everything v node, loadable .few))
-            (omega (arith, node, room .leaves, filled .leaves .as-long))
-            (λ i place. six-at leaves (filled .leaves) v i node place);
-        six = λ v node. omega (arith, filled .sizes .filled v (omega arith) node, node-few due s everything v node, loadable .few);
+        cut = λ v node. list-held leaves (filled .cuts) long v node (few v node);
+        six = λ v node. omega (arith, size-held leaves (filled .cuts) long v node (few v node), few v node);
       }
 
   pub holds-places : LineRoom (due .nodes) a → HoldsPlaces due s (reading due s .sheet .lines) (a′ .places)
@@ -123,7 +126,7 @@ module _ {due : Due} {s : List ℕ} {a a′ : LineArrays} {b b′ : LutArrays} {
         sound = λ v more node. ap (lineRuling due s) (sym (there v more node)) ∙ gate-found due s everything v more node .ruled;
       }
 
-  pub holds-luts : LutRoom (due .nodes) b → HoldsLuts (due .nodes) (reading due s .sheet .luts) (b′ .roots) (b′ .leaves) (b′ .sizes) (b′ .tables)
+  pub holds-luts : LutRoom (due .nodes) b → HoldsLuts (due .nodes) (reading due s .sheet .luts) (b′ .luts) (b′ .cuts) (b′ .tables)
   holds-luts room =
       let luts = reading due s .sheet .luts in
       let filled = loaded .luts in
@@ -134,18 +137,14 @@ module _ {due : Due} {s : List ℕ} {a a′ : LineArrays} {b b′ : LutArrays} {
         listed-few due s (countAt due s) (due .inputs) (theLines due s .next) v (everything .luts),
         loadable .few,
       ) in
+      let long : 7 * due .nodes ≤ length (b′ .cuts) = omega (arith, room .cuts, filled .cuts .as-long) in
       record {
-        roots-long = omega (arith, room .roots, filled .roots .as-long);
-        leaves-long = omega (arith, room .leaves, filled .leaves .as-long);
-        sizes-long = omega (arith, room .sizes, filled .sizes .as-long);
+        roots-long = omega (arith, room .luts, filled .luts .as-long);
+        cuts-long = long;
         tables-long = omega (arith, room .tables, filled .tables .as-long);
-        root = λ v node. filled .roots .filled v (omega arith) node;
-        cut =
-            λ v node.
-            ap (λ (n : ℕ). take n (drop (6 * v) (b′ .leaves))) (filled .sizes .filled v (omega arith) node)
-            ∙ six-cut (b′ .leaves) (leavesListed luts v) v (few v) (omega (arith, node, room .leaves, filled .leaves .as-long))
-            (λ i place. six-at (leavesListed luts) (filled .leaves) v i node place);
-        six = λ v node. omega (arith, filled .sizes .filled v (omega arith) node, few v);
+        root = λ v node. filled .luts .filled v (omega arith) node;
+        cut = λ v node. list-held (leavesListed luts) (filled .cuts) long v node (few v);
+        six = λ v node. omega (arith, size-held (leavesListed luts) (filled .cuts) long v node (few v), few v);
         table = λ v node. filled .tables .filled v (omega arith) node;
       }
 
@@ -164,10 +163,8 @@ loaded-one one two =
     let w = two .luts in
     record {
       lines =
-          λ i. lineArrays (filled-one (l .labels) (m .labels) i) (filled-one (l .leaves) (m .leaves) i) (filled-one (l .sizes) (m .sizes) i)
-          (filled-one (l .places) (m .places) i);
+          λ i. lineArrays (filled-one (l .labels) (m .labels) i) (filled-one (l .cuts) (m .cuts) i) (filled-one (l .places) (m .places) i);
       luts =
-          λ i. lutArrays (filled-one (u .roots) (w .roots) i) (filled-one (u .leaves) (w .leaves) i) (filled-one (u .sizes) (w .sizes) i)
-          (filled-one (u .tables) (w .tables) i);
+          λ i. lutArrays (filled-one (u .luts) (w .luts) i) (filled-one (u .cuts) (w .cuts) i) (filled-one (u .tables) (w .tables) i);
       depth = one .depth ∙ sym (two .depth);
     }

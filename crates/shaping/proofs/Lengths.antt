@@ -13,7 +13,9 @@ use Rattle.sheet.specs.declared.Ruling.{Ruling}
 use Rattle.sheet.specs.declared.Ruling.the-variants.{Sound, Faulty}
 use Rattle.sheet.specs.Sheet.{Sheet}
 use Rattle.sheet.specs.Encoding.{pathBytes, headField, lineField, lutField, encode}
-use Rattle.sheet.specs.Shape.{Due, endAt, idsAt, pathEnd, pathsAt, depthAt, countAt, headRuling, leavesCount, lineCut, linePaths, lineAt, lineRuling, lutCut, lutAt, lutRuling, Fields, andField, linesFrom, lutsFrom, reading}
+use Rattle.sheet.specs.Shape.{Due, endAt, idsAt, pathEnd, pathsAt, depthAt, countAt, headRuling, leavesCount, lineCut}
+use Rattle.sheet.specs.Shape.{linePaths, lineAt, lineRuling, lutCut, lutAt, lutRuling, Fields, andField, linesFrom}
+use Rattle.sheet.specs.Shape.{lutsFrom, reading}
 use Rattle.sheet.proofs.Lengths.{length-three, length-path, length-paths, length-head, length-line, length-lut}
 use Rattle.shaping.specs.Numbers.{pathsEnd}
 use Rattle.shaping.proofs.Ids.{length-ids-at}

@@ -4,7 +4,7 @@ use Rattle.sheet.specs.Shape.{Due, dueFrom}
 use Rattle.shaping.specs.declared.Terms.{Terms}
 
 abbrev pub dueOf : Terms → Due
-dueOf t = dueFrom (t .form) (t .most) (t .k .leaves) (t .inputs) (t .nodes)
+dueOf t = dueFrom (t .form) (t .most) (t .numbers .k .leaves) (t .numbers .inputs) (t .numbers .nodes)
 
 -- ids of one byte or two
 pub record Narrow (width : ℕ) : Type 0 where

@@ -4,11 +4,11 @@ use crate::numbers::leaves_in_range;
 use crate::numbers::small_at;
 use crate::paths::paths_in_range;
 use crate::paths::paths_use;
-use drawing::CutSize;
 use drawing::bytes::byte_at;
 use drawing::bytes::length_at;
 use sheet::Fault;
 use sheet::Ruling;
+use storage::CutSize;
 ghost use mathlib.Core.Path.{_≡_};
 ghost use mathlib.Core.Bool.{false, not, _||_};
 ghost use Prim.Native.Nat.{_+_, _≤_};
@@ -46,7 +46,7 @@ pub fn field_end(sheet: &[u8], at: usize) -> usize
 
 fn head_in_range(terms: Terms, sheet: &[u8]) -> bool
     requires { ⌜ Narrow (terms .form .width) ⌝ }
-    requires { ⌜ terms .inputs ≤ terms .nodes ⌝ }
+    requires { ⌜ terms .numbers .inputs ≤ terms .numbers .nodes ⌝ }
     requires { ⌜ 4 + terms .form .width + terms .form .width ≤ length (now sheet) ⌝ }
     ensures { λ r. ⌜ r ≡ not (headOutOfRange (dueOf terms) (now (sheet .entry))) ⌝ }
 {
@@ -57,7 +57,7 @@ fn head_in_range(terms: Terms, sheet: &[u8]) -> bool
     if terms.most < small_at(sheet, 4, width) {
         return false;
     }
-    if terms.nodes - terms.inputs < small_at(sheet, 4 + width, width) {
+    if terms.numbers.nodes - terms.numbers.inputs < small_at(sheet, 4 + width, width) {
         return false;
     }
     true
@@ -66,7 +66,7 @@ fn head_in_range(terms: Terms, sheet: &[u8]) -> bool
 // A head's value, once its frame is sound.
 fn head_value(terms: Terms, sheet: &[u8]) -> Ruling
     requires { ⌜ Narrow (terms .form .width) ⌝ }
-    requires { ⌜ terms .inputs ≤ terms .nodes ⌝ }
+    requires { ⌜ terms .numbers .inputs ≤ terms .numbers .nodes ⌝ }
     requires { ⌜ endAt (now sheet) 0 ≤ length (now sheet) ⌝ }
     ensures { λ r. ⌜ r ≡ first Ruling.Sound (valueRules 0 (headLengthWrong (dueOf terms) (now (sheet .entry))) (headOutOfRange (dueOf terms) (now (sheet .entry)))) ⌝ }
 {
@@ -82,7 +82,7 @@ fn head_value(terms: Terms, sheet: &[u8]) -> Ruling
 
 pub fn head_ruling(terms: Terms, sheet: &[u8]) -> Ruling
     requires { ⌜ Narrow (terms .form .width) ⌝ }
-    requires { ⌜ terms .inputs ≤ terms .nodes ⌝ }
+    requires { ⌜ terms .numbers .inputs ≤ terms .numbers .nodes ⌝ }
     ensures { λ r. ⌜ r ≡ headRuling (dueOf terms) (now (sheet .entry)) ⌝ }
 {
     let framed = frame(sheet, 0, terms.form.head);
@@ -141,10 +141,10 @@ fn line_in_range(terms: Terms, sheet: &[u8], at: usize) -> bool
     }
     let paths = cut + 1 + small_at(sheet, cut, 1) * width;
     let count = small_at(sheet, paths, 1);
-    if !is_path_count(count, terms.k) {
+    if !is_path_count(count, terms.numbers.k) {
         return false;
     }
-    paths_in_range(sheet, paths + 1, width, count, terms.nodes)
+    paths_in_range(sheet, paths + 1, width, count, terms.numbers.nodes)
 }
 
 // A line's value, once its frame is sound.
@@ -202,7 +202,7 @@ fn lut_in_range(terms: Terms, least: usize, sheet: &[u8], at: usize) -> bool
     if root < least {
         return false;
     }
-    if terms.nodes <= root {
+    if terms.numbers.nodes <= root {
         return false;
     }
     leaves_in_range(terms, sheet, at + 3 + width)

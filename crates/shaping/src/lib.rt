@@ -15,26 +15,24 @@ use crate::reader::passed;
 use crate::runs::Reached;
 use crate::runs::judge_lines;
 use crate::runs::judge_luts;
-use drawing::CutSize;
-use drawing::Label;
 use sheet::Fault;
 use sheet::Form;
 use sheet::Ruling;
+use storage::Label;
+use storage::Numbers;
 ghost use mathlib.Core.Path.{_≡_};
 ghost use Prim.Native.Nat.{_≤_};
 ghost use lib.ListN.{length};
-ghost use Rattle.sheet.specs.Shape.{dueFrom, reading, headRuling};
+ghost use Rattle.sheet.specs.Shape.{reading, headRuling};
 ghost use Rattle.shaping.specs.Terms.{dueOf, Narrow};
 ghost use Rattle.shaping.specs.Loading.{lineArrays, LineRoom, lutArrays, LutRoom, Loadable, Loaded};
 ghost use Rattle.shaping.specs.Judging.{afterHeadRuling, afterLinesRuling};
 
-// What a sheet is read by: its form, the greatest depth and label, and the table's K, I and n.
+// What a sheet is read by: its form, the greatest depth and label, and the numbers of the drawing.
 pub struct Terms {
     pub form: Form,
     pub most: usize,
-    pub k: CutSize,
-    pub inputs: usize,
-    pub nodes: usize,
+    pub numbers: Numbers,
 }
 
 // The LUTs from `at` on, and that nothing follows them.
@@ -61,7 +59,7 @@ fn judge_from_luts(terms: Terms, sheet: &[u8], at: usize) -> Ruling
 // What follows a sound head.
 fn judge_from_lines(terms: Terms, sheet: &[u8]) -> Ruling
     requires { ⌜ Narrow (terms .form .width) ⌝ }
-    requires { ⌜ terms .inputs ≤ terms .nodes ⌝ }
+    requires { ⌜ terms .numbers .inputs ≤ terms .numbers .nodes ⌝ }
     requires { ⌜ headRuling (dueOf terms) (now sheet) ≡ Ruling.Sound ⌝ }
     ensures { λ r. ⌜ r ≡ afterHeadRuling (dueOf terms) (now (sheet .entry)) ⌝ }
 {
@@ -74,25 +72,11 @@ fn judge_from_lines(terms: Terms, sheet: &[u8]) -> Ruling
 }
 
 // Pass one: the ruling on the shape of a sheet.
-pub fn judge_shape(
-    form: Form,
-    most: usize,
-    k: CutSize,
-    inputs: usize,
-    nodes: usize,
-    sheet: &[u8],
-) -> Ruling
-    requires { ⌜ Narrow (form .width) ⌝ }
-    requires { ⌜ inputs ≤ nodes ⌝ }
-    ensures { λ r. ⌜ r ≡ reading (dueFrom form most (k .leaves) inputs nodes) (now (sheet .entry)) .ruling ⌝ }
+pub fn judge_shape(terms: Terms, sheet: &[u8]) -> Ruling
+    requires { ⌜ Narrow (terms .form .width) ⌝ }
+    requires { ⌜ terms .numbers .inputs ≤ terms .numbers .nodes ⌝ }
+    ensures { λ r. ⌜ r ≡ reading (dueOf terms) (now (sheet .entry)) .ruling ⌝ }
 {
-    let terms = Terms {
-        form,
-        most,
-        k,
-        inputs,
-        nodes,
-    };
     let head = head_ruling(terms, sheet);
     match head {
         Ruling::Faulty(f) => Ruling::Faulty(f),
@@ -100,38 +84,25 @@ pub fn judge_shape(
     }
 }
 
-// Loads a sheet of sound shape: each node's label, leaves and sizes, and where its line stands; each root's leaves, size and table.
-// A node has six places for leaves, with zeros behind them. Answers the head's depth.
+// Loads a sheet of sound shape: each node's label and cut, and where its line stands; each root's mark, cut and table.
+// Behind the leaves of a cut stand zeros. Answers the head's depth.
 pub fn load_sheet(
-    form: Form,
-    most: usize,
-    k: CutSize,
-    inputs: usize,
-    nodes: usize,
+    terms: Terms,
     sheet: &[u8],
     labels: &mut [u16],
-    leaves: &mut [u16],
-    sizes: &mut [u8],
+    cuts: &mut [u16],
     places: &mut [u32],
-    roots: &mut [u8],
-    lut_leaves: &mut [u16],
-    lut_sizes: &mut [u8],
-    lut_tables: &mut [u64],
+    luts: &mut [u8],
+    lut_cuts: &mut [u16],
+    tables: &mut [u64],
 ) -> Label
-    requires { ⌜ Loadable (dueFrom form most (k .leaves) inputs nodes) (now sheet) ⌝ }
-    requires { ⌜ LineRoom nodes (lineArrays (now labels) (now leaves) (now sizes) (now places)) ⌝ }
-    requires { ⌜ LutRoom nodes (lutArrays (now roots) (now «lut_leaves») (now «lut_sizes») (now «lut_tables»)) ⌝ }
-    ensures { λ r. ⌜ Loaded (dueFrom form most (k .leaves) inputs nodes) (now (sheet .entry)) (lineArrays (now (labels .entry)) (now (leaves .entry)) (now (sizes .entry)) (now (places .entry))) (lutArrays (now (roots .entry)) (now («lut_leaves» .entry)) (now («lut_sizes» .entry)) (now («lut_tables» .entry))) (r .depth) (lineArrays (now (labels .exit)) (now (leaves .exit)) (now (sizes .exit)) (now (places .exit))) (lutArrays (now (roots .exit)) (now («lut_leaves» .exit)) (now («lut_sizes» .exit)) (now («lut_tables» .exit))) ⌝ }
+    requires { ⌜ Loadable (dueOf terms) (now sheet) ⌝ }
+    requires { ⌜ LineRoom (terms .numbers .nodes) (lineArrays (now labels) (now cuts) (now places)) ⌝ }
+    requires { ⌜ LutRoom (terms .numbers .nodes) (lutArrays (now luts) (now «lut_cuts») (now tables)) ⌝ }
+    ensures { λ r. ⌜ Loaded (dueOf terms) (now (sheet .entry)) (lineArrays (now (labels .entry)) (now (cuts .entry)) (now (places .entry))) (lutArrays (now (luts .entry)) (now («lut_cuts» .entry)) (now (tables .entry))) (r .depth) (lineArrays (now (labels .exit)) (now (cuts .exit)) (now (places .exit))) (lutArrays (now (luts .exit)) (now («lut_cuts» .exit)) (now (tables .exit))) ⌝ }
 {
-    let terms = Terms {
-        form,
-        most,
-        k,
-        inputs,
-        nodes,
-    };
-    let next = load_lines(terms, sheet, labels, leaves, sizes, places);
-    load_luts(terms, sheet, next, roots, lut_leaves, lut_sizes, lut_tables);
+    let next = load_lines(terms, sheet, labels, cuts, places);
+    load_luts(terms, sheet, next, luts, lut_cuts, tables);
     let depth = small_at(sheet, 4, terms.form.width) as u16;
     Label { depth }
 }

@@ -6,7 +6,7 @@ use crate::storing::put_line;
 use crate::storing::put_lut;
 use crate::storing::put_no_line;
 use crate::storing::put_no_lut;
-use drawing::Node;
+use storage::Node;
 ghost use mathlib.Core.Path.{_≡_};
 ghost use Prim.Native.Nat.{_+_, _-_};
 ghost use Rattle.sheet.specs.Shape.{endAt, reading};
@@ -15,21 +15,14 @@ ghost use Rattle.shaping.specs.Loading.{startOf, lineArrays, LineRoom, L
 ghost use Rattle.shaping.specs.Turns.{GatesLoaded, LinesLoaded, nextRoot, NextReady, TurnReady, LutTurn};
 
 // The inputs' entries.
-fn load_inputs(
-    terms: Terms,
-    sheet: &[u8],
-    labels: &mut [u16],
-    leaves: &mut [u16],
-    sizes: &mut [u8],
-    places: &mut [u32],
-)
+fn load_inputs(terms: Terms, sheet: &[u8], labels: &mut [u16], cuts: &mut [u16], places: &mut [u32])
     requires { ⌜ Loadable (dueOf terms) (now sheet) ⌝ }
-    requires { ⌜ LineRoom (terms .nodes) (lineArrays (now labels) (now leaves) (now sizes) (now places)) ⌝ }
-    ensures { λ _. ⌜ LinesFilled (terms .inputs) (now (sheet .entry)) (reading (dueOf terms) (now (sheet .entry)) .sheet .lines) (lineArrays (now (labels .entry)) (now (leaves .entry)) (now (sizes .entry)) (now (places .entry))) 0 (terms .inputs) (lineArrays (now (labels .exit)) (now (leaves .exit)) (now (sizes .exit)) (now (places .exit))) ⌝ }
+    requires { ⌜ LineRoom (terms .numbers .nodes) (lineArrays (now labels) (now cuts) (now places)) ⌝ }
+    ensures { λ _. ⌜ LinesFilled (terms .numbers .inputs) (now (sheet .entry)) (reading (dueOf terms) (now (sheet .entry)) .sheet .lines) (lineArrays (now (labels .entry)) (now (cuts .entry)) (now (places .entry))) 0 (terms .numbers .inputs) (lineArrays (now (labels .exit)) (now (cuts .exit)) (now (places .exit))) ⌝ }
 {
     let mut v = 0;
-    while v < terms.inputs {
-        put_no_line(sheet, Node { id: v as u16 }, labels, leaves, sizes, places);
+    while v < terms.numbers.inputs {
+        put_no_line(sheet, Node { id: v as u16 }, labels, cuts, places);
         v += 1;
     }
 }
@@ -39,25 +32,23 @@ fn load_gates(
     terms: Terms,
     sheet: &[u8],
     labels: &mut [u16],
-    leaves: &mut [u16],
-    sizes: &mut [u8],
+    cuts: &mut [u16],
     places: &mut [u32],
 ) -> usize
     requires { ⌜ Loadable (dueOf terms) (now sheet) ⌝ }
-    requires { ⌜ LineRoom (terms .nodes) (lineArrays (now labels) (now leaves) (now sizes) (now places)) ⌝ }
-    ensures { λ r. ⌜ GatesLoaded (dueOf terms) (now (sheet .entry)) (lineArrays (now (labels .entry)) (now (leaves .entry)) (now (sizes .entry)) (now (places .entry))) r (lineArrays (now (labels .exit)) (now (leaves .exit)) (now (sizes .exit)) (now (places .exit))) ⌝ }
+    requires { ⌜ LineRoom (terms .numbers .nodes) (lineArrays (now labels) (now cuts) (now places)) ⌝ }
+    ensures { λ r. ⌜ GatesLoaded (dueOf terms) (now (sheet .entry)) (lineArrays (now (labels .entry)) (now (cuts .entry)) (now (places .entry))) r (lineArrays (now (labels .exit)) (now (cuts .exit)) (now (places .exit))) ⌝ }
 {
     let mut at = passed(sheet, 0);
-    let mut v = terms.inputs;
-    while v < terms.nodes {
+    let mut v = terms.numbers.inputs;
+    while v < terms.numbers.nodes {
         put_line(
             terms,
             sheet,
             at,
             Node { id: v as u16 },
             labels,
-            leaves,
-            sizes,
+            cuts,
             places,
         );
         at = passed(sheet, at);
@@ -71,16 +62,15 @@ pub fn load_lines(
     terms: Terms,
     sheet: &[u8],
     labels: &mut [u16],
-    leaves: &mut [u16],
-    sizes: &mut [u8],
+    cuts: &mut [u16],
     places: &mut [u32],
 ) -> usize
     requires { ⌜ Loadable (dueOf terms) (now sheet) ⌝ }
-    requires { ⌜ LineRoom (terms .nodes) (lineArrays (now labels) (now leaves) (now sizes) (now places)) ⌝ }
-    ensures { λ r. ⌜ LinesLoaded (dueOf terms) (now (sheet .entry)) (lineArrays (now (labels .entry)) (now (leaves .entry)) (now (sizes .entry)) (now (places .entry))) r (lineArrays (now (labels .exit)) (now (leaves .exit)) (now (sizes .exit)) (now (places .exit))) ⌝ }
+    requires { ⌜ LineRoom (terms .numbers .nodes) (lineArrays (now labels) (now cuts) (now places)) ⌝ }
+    ensures { λ r. ⌜ LinesLoaded (dueOf terms) (now (sheet .entry)) (lineArrays (now (labels .entry)) (now (cuts .entry)) (now (places .entry))) r (lineArrays (now (labels .exit)) (now (cuts .exit)) (now (places .exit))) ⌝ }
 {
-    load_inputs(terms, sheet, labels, leaves, sizes, places);
-    load_gates(terms, sheet, labels, leaves, sizes, places)
+    load_inputs(terms, sheet, labels, cuts, places);
+    load_gates(terms, sheet, labels, cuts, places)
 }
 
 // Where the next LUT stands, and how many are left.
@@ -96,7 +86,7 @@ fn next_root(terms: Terms, sheet: &[u8], turn: Turn) -> usize
 {
     let at = turn.at;
     if turn.left == 0 {
-        return terms.nodes;
+        return terms.numbers.nodes;
     }
     small_at(sheet, at + 3, terms.form.width)
 }
@@ -107,21 +97,20 @@ fn lut_turn(
     sheet: &[u8],
     turn: Turn,
     node: Node,
-    roots: &mut [u8],
-    leaves: &mut [u16],
-    sizes: &mut [u8],
+    luts: &mut [u8],
+    cuts: &mut [u16],
     tables: &mut [u64],
 ) -> Turn
     requires { ⌜ TurnReady (dueOf terms) (now sheet) (reading (dueOf terms) (now sheet) .sheet .luts) (node .id) (turn .left) (turn .at) ⌝ }
-    requires { ⌜ LutRoom (node .id + 1) (lutArrays (now roots) (now leaves) (now sizes) (now tables)) ⌝ }
-    ensures { λ r. ⌜ LutTurn (dueOf terms) (now (sheet .entry)) (reading (dueOf terms) (now (sheet .entry)) .sheet .luts) (node .id) (lutArrays (now (roots .entry)) (now (leaves .entry)) (now (sizes .entry)) (now (tables .entry))) r (lutArrays (now (roots .exit)) (now (leaves .exit)) (now (sizes .exit)) (now (tables .exit))) ⌝ }
+    requires { ⌜ LutRoom (node .id + 1) (lutArrays (now luts) (now cuts) (now tables)) ⌝ }
+    ensures { λ r. ⌜ LutTurn (dueOf terms) (now (sheet .entry)) (reading (dueOf terms) (now (sheet .entry)) .sheet .luts) (node .id) (lutArrays (now (luts .entry)) (now (cuts .entry)) (now (tables .entry))) r (lutArrays (now (luts .exit)) (now (cuts .exit)) (now (tables .exit))) ⌝ }
 {
     let at = turn.at;
     if next_root(terms, sheet, turn) != node.id as usize {
-        put_no_lut(sheet, node, roots, leaves, sizes, tables);
+        put_no_lut(sheet, node, luts, cuts, tables);
         return turn;
     }
-    put_lut(terms, sheet, at, node, roots, leaves, sizes, tables);
+    put_lut(terms, sheet, at, node, luts, cuts, tables);
     Turn {
         at: passed(sheet, at),
         left: turn.left - 1,
@@ -133,24 +122,23 @@ pub fn load_luts(
     terms: Terms,
     sheet: &[u8],
     start: usize,
-    roots: &mut [u8],
-    leaves: &mut [u16],
-    sizes: &mut [u8],
+    luts: &mut [u8],
+    cuts: &mut [u16],
     tables: &mut [u64],
 )
     requires { ⌜ Loadable (dueOf terms) (now sheet) ⌝ }
-    requires { ⌜ start ≡ startOf (now sheet) (endAt (now sheet) 0) (terms .nodes - terms .inputs) ⌝ }
-    requires { ⌜ LutRoom (terms .nodes) (lutArrays (now roots) (now leaves) (now sizes) (now tables)) ⌝ }
-    ensures { λ _. ⌜ LutsFilled (reading (dueOf terms) (now (sheet .entry)) .sheet .luts) (lutArrays (now (roots .entry)) (now (leaves .entry)) (now (sizes .entry)) (now (tables .entry))) (terms .nodes) (lutArrays (now (roots .exit)) (now (leaves .exit)) (now (sizes .exit)) (now (tables .exit))) ⌝ }
+    requires { ⌜ start ≡ startOf (now sheet) (endAt (now sheet) 0) (terms .numbers .nodes - terms .numbers .inputs) ⌝ }
+    requires { ⌜ LutRoom (terms .numbers .nodes) (lutArrays (now luts) (now cuts) (now tables)) ⌝ }
+    ensures { λ _. ⌜ LutsFilled (reading (dueOf terms) (now (sheet .entry)) .sheet .luts) (lutArrays (now (luts .entry)) (now (cuts .entry)) (now (tables .entry))) (terms .numbers .nodes) (lutArrays (now (luts .exit)) (now (cuts .exit)) (now (tables .exit))) ⌝ }
 {
     let width = terms.form.width;
     let mut at = start;
     let mut left = small_at(sheet, 4 + width, width);
     let mut v = 0;
-    while v < terms.nodes {
+    while v < terms.numbers.nodes {
         let turn = Turn { at, left };
         let node = Node { id: v as u16 };
-        let next = lut_turn(terms, sheet, turn, node, roots, leaves, sizes, tables);
+        let next = lut_turn(terms, sheet, turn, node, luts, cuts, tables);
         at = next.at;
         left = next.left;
         v += 1;

@@ -74,11 +74,11 @@ pub fn leaves_in_range(terms: Terms, sheet: &[u8], at: usize) -> bool
     if count < 1 {
         return false;
     }
-    if (terms.k.leaves as usize) < count {
+    if (terms.numbers.k.leaves as usize) < count {
         return false;
     }
     if !ids_rise(sheet, at + 1, width, count) {
         return false;
     }
-    ids_below(sheet, at + 1, width, count, terms.nodes)
+    ids_below(sheet, at + 1, width, count, terms.numbers.nodes)
 }

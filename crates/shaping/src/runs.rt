@@ -21,12 +21,12 @@ pub enum Reached {
 // The lines of the gates, from `start` on.
 pub fn judge_lines(terms: Terms, sheet: &[u8], start: usize) -> Reached
     requires { ⌜ Narrow (terms .form .width) ⌝ }
-    requires { ⌜ terms .inputs ≤ terms .nodes ⌝ }
+    requires { ⌜ terms .numbers .inputs ≤ terms .numbers .nodes ⌝ }
     requires { ⌜ start ≤ length (now sheet) ⌝ }
-    ensures { λ r. ⌜ RunJudged (now (sheet .entry)) (linesFrom (dueOf terms) (now (sheet .entry)) (terms .nodes - terms .inputs) start) r ⌝ }
+    ensures { λ r. ⌜ RunJudged (now (sheet .entry)) (linesFrom (dueOf terms) (now (sheet .entry)) (terms .numbers .nodes - terms .numbers .inputs) start) r ⌝ }
 {
     let mut at = start;
-    let mut left = terms.nodes - terms.inputs;
+    let mut left = terms.numbers.nodes - terms.numbers.inputs;
     while 0 < left {
         let ruled = line_ruling(terms, sheet, at);
         if let Ruling::Faulty(f) = ruled {
@@ -42,11 +42,11 @@ pub fn judge_lines(terms: Terms, sheet: &[u8], start: usize) -> Reached
 pub fn judge_luts(terms: Terms, sheet: &[u8], start: usize, count: usize) -> Reached
     requires { ⌜ Narrow (terms .form .width) ⌝ }
     requires { ⌜ start ≤ length (now sheet) ⌝ }
-    ensures { λ r. ⌜ RunJudged (now (sheet .entry)) (lutsFrom (dueOf terms) (now (sheet .entry)) count (terms .inputs) start) r ⌝ }
+    ensures { λ r. ⌜ RunJudged (now (sheet .entry)) (lutsFrom (dueOf terms) (now (sheet .entry)) count (terms .numbers .inputs) start) r ⌝ }
 {
     let width = terms.form.width;
     let mut at = start;
-    let mut least = terms.inputs;
+    let mut least = terms.numbers.inputs;
     let mut left = count;
     while 0 < left {
         let ruled = lut_ruling(terms, least, sheet, at);

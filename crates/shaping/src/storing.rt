@@ -1,40 +1,47 @@
 // One node's entries in the arrays that a sheet is loaded into.
 use crate::Terms;
 use crate::numbers::small_at;
-use drawing::Node;
 use drawing::bytes::number_at;
+use storage::Node;
+use storage::lists::PLACES;
 ghost use mathlib.Core.Path.{_≡_};
-ghost use Prim.Native.Nat.{_+_, _*_, _-_, _≤_};
+ghost use Prim.Native.Nat.{_+_, _*_, _-_, _≤_, _<_};
 ghost use lib.ListN.{length, getD};
 ghost use Rattle.sheet.specs.Sheet.{noLine};
 ghost use Rattle.sheet.specs.Shape.{idsAt, lineAt, lutAt};
 ghost use Rattle.shaping.specs.Terms.{dueOf, Narrow};
-ghost use Rattle.shaping.specs.Loading.{Filled, lineArrays, LineRoom, LinePut, lutArrays, LutRoom, LutPut, noneListed, lutListed};
+ghost use Rattle.shaping.specs.Loading.{Filled, counted, lineArrays, LineRoom, LinePut, lutArrays, LutRoom, LutPut, noneListed, lutListed};
 ghost use Rattle.shaping.specs.Turns.{LineReady, LutReady};
 
-// The i-th of the `count` ids from `at` on, and 0 behind them.
-fn leaf_or_none(sheet: &[u8], at: usize, width: usize, count: usize, i: usize) -> u16
+// What stands at the i-th place of a list of `count` ids that are read from `at` on: how many, then the ids, and 0 behind them.
+fn list_place(sheet: &[u8], at: usize, width: usize, count: usize, i: usize) -> u16
     requires { ⌜ Narrow width ⌝ }
+    requires { ⌜ count < 65536 ⌝ }
     requires { ⌜ at + count * width ≤ length (now sheet) ⌝ }
-    ensures { λ r. ⌜ r ≡ getD (idsAt (now (sheet .entry)) at width count) i 0 ⌝ }
+    ensures { λ r. ⌜ r ≡ getD (counted (idsAt (now (sheet .entry)) at width count)) i 0 ⌝ }
 {
-    if count <= i {
+    if i == 0 {
+        return count as u16;
+    }
+    let before = i - 1;
+    if count <= before {
         return 0;
     }
-    small_at(sheet, at + i * width, width) as u16
+    small_at(sheet, at + before * width, width) as u16
 }
 
-// Fills the six places of a node: the `count` ids from `at` on, then zeros.
-fn put_leaves(sheet: &[u8], at: usize, width: usize, count: usize, leaves: &mut [u16], node: Node)
+// Fills the seven places of a node by the `count` ids from `at` on.
+fn put_list(sheet: &[u8], at: usize, width: usize, count: usize, cuts: &mut [u16], node: Node)
     requires { ⌜ Narrow width ⌝ }
+    requires { ⌜ count < 65536 ⌝ }
     requires { ⌜ at + count * width ≤ length (now sheet) ⌝ }
-    requires { ⌜ 6 * node .id + 6 ≤ length (now leaves) ⌝ }
-    ensures { λ _. ⌜ Filled (now (leaves .entry)) (6 * node .id) (6 * node .id + 6) (λ i. getD (idsAt (now (sheet .entry)) at width count) (i - 6 * node .id) 0) (now (leaves .exit)) ⌝ }
+    requires { ⌜ 7 * node .id + 7 ≤ length (now cuts) ⌝ }
+    ensures { λ _. ⌜ Filled (now (cuts .entry)) (7 * node .id) (7 * node .id + 7) (λ i. getD (counted (idsAt (now (sheet .entry)) at width count)) (i - 7 * node .id) 0) (now (cuts .exit)) ⌝ }
 {
-    let base = 6 * (node.id as usize);
+    let base = PLACES * (node.id as usize);
     let mut i = 0;
-    while i < 6 {
-        leaves[base + i] = leaf_or_none(sheet, at, width, count, i);
+    while i < PLACES {
+        cuts[base + i] = list_place(sheet, at, width, count, i);
         i += 1;
     }
 }
@@ -44,18 +51,16 @@ pub fn put_no_line(
     sheet: &[u8],
     node: Node,
     labels: &mut [u16],
-    leaves: &mut [u16],
-    sizes: &mut [u8],
+    cuts: &mut [u16],
     places: &mut [u32],
 )
-    requires { ⌜ LineRoom (node .id + 1) (lineArrays (now labels) (now leaves) (now sizes) (now places)) ⌝ }
-    ensures { λ _. ⌜ LinePut noLine 0 (node .id) (lineArrays (now (labels .entry)) (now (leaves .entry)) (now (sizes .entry)) (now (places .entry))) (lineArrays (now (labels .exit)) (now (leaves .exit)) (now (sizes .exit)) (now (places .exit))) ⌝ }
+    requires { ⌜ LineRoom (node .id + 1) (lineArrays (now labels) (now cuts) (now places)) ⌝ }
+    ensures { λ _. ⌜ LinePut noLine 0 (node .id) (lineArrays (now (labels .entry)) (now (cuts .entry)) (now (places .entry))) (lineArrays (now (labels .exit)) (now (cuts .exit)) (now (places .exit))) ⌝ }
 {
     let v = node.id as usize;
     labels[v] = 0;
-    sizes[v] = 0;
     places[v] = 0;
-    put_leaves(sheet, 0, 1, 0, leaves, node);
+    put_list(sheet, 0, 1, 0, cuts, node);
 }
 
 // A gate's entries, of its line at `at`.
@@ -65,41 +70,31 @@ pub fn put_line(
     at: usize,
     node: Node,
     labels: &mut [u16],
-    leaves: &mut [u16],
-    sizes: &mut [u8],
+    cuts: &mut [u16],
     places: &mut [u32],
 )
     requires { ⌜ LineReady (dueOf terms) (now sheet) at ⌝ }
-    requires { ⌜ LineRoom (node .id + 1) (lineArrays (now labels) (now leaves) (now sizes) (now places)) ⌝ }
-    ensures { λ _. ⌜ LinePut (lineAt (dueOf terms) (now (sheet .entry)) at) at (node .id) (lineArrays (now (labels .entry)) (now (leaves .entry)) (now (sizes .entry)) (now (places .entry))) (lineArrays (now (labels .exit)) (now (leaves .exit)) (now (sizes .exit)) (now (places .exit))) ⌝ }
+    requires { ⌜ LineRoom (node .id + 1) (lineArrays (now labels) (now cuts) (now places)) ⌝ }
+    ensures { λ _. ⌜ LinePut (lineAt (dueOf terms) (now (sheet .entry)) at) at (node .id) (lineArrays (now (labels .entry)) (now (cuts .entry)) (now (places .entry))) (lineArrays (now (labels .exit)) (now (cuts .exit)) (now (places .exit))) ⌝ }
 {
     let v = node.id as usize;
     let width = terms.form.width;
     let cut = at + 3 + width;
     let count = small_at(sheet, cut, 1);
     labels[v] = small_at(sheet, at + 3, width) as u16;
-    sizes[v] = count as u8;
     places[v] = at as u32;
-    put_leaves(sheet, cut + 1, width, count, leaves, node);
+    put_list(sheet, cut + 1, width, count, cuts, node);
 }
 
 // The entries of a node that is no root.
-pub fn put_no_lut(
-    sheet: &[u8],
-    node: Node,
-    roots: &mut [u8],
-    leaves: &mut [u16],
-    sizes: &mut [u8],
-    tables: &mut [u64],
-)
-    requires { ⌜ LutRoom (node .id + 1) (lutArrays (now roots) (now leaves) (now sizes) (now tables)) ⌝ }
-    ensures { λ _. ⌜ LutPut noneListed (node .id) (lutArrays (now (roots .entry)) (now (leaves .entry)) (now (sizes .entry)) (now (tables .entry))) (lutArrays (now (roots .exit)) (now (leaves .exit)) (now (sizes .exit)) (now (tables .exit))) ⌝ }
+pub fn put_no_lut(sheet: &[u8], node: Node, luts: &mut [u8], cuts: &mut [u16], tables: &mut [u64])
+    requires { ⌜ LutRoom (node .id + 1) (lutArrays (now luts) (now cuts) (now tables)) ⌝ }
+    ensures { λ _. ⌜ LutPut noneListed (node .id) (lutArrays (now (luts .entry)) (now (cuts .entry)) (now (tables .entry))) (lutArrays (now (luts .exit)) (now (cuts .exit)) (now (tables .exit))) ⌝ }
 {
     let v = node.id as usize;
-    roots[v] = 0;
-    sizes[v] = 0;
+    luts[v] = 0;
     tables[v] = 0;
-    put_leaves(sheet, 0, 1, 0, leaves, node);
+    put_list(sheet, 0, 1, 0, cuts, node);
 }
 
 // A root's entries, of its LUT at `at`.
@@ -108,21 +103,19 @@ pub fn put_lut(
     sheet: &[u8],
     at: usize,
     node: Node,
-    roots: &mut [u8],
-    leaves: &mut [u16],
-    sizes: &mut [u8],
+    luts: &mut [u8],
+    cuts: &mut [u16],
     tables: &mut [u64],
 )
     requires { ⌜ LutReady (dueOf terms) (now sheet) at ⌝ }
-    requires { ⌜ LutRoom (node .id + 1) (lutArrays (now roots) (now leaves) (now sizes) (now tables)) ⌝ }
-    ensures { λ _. ⌜ LutPut (lutListed (lutAt (dueOf terms) (now (sheet .entry)) at)) (node .id) (lutArrays (now (roots .entry)) (now (leaves .entry)) (now (sizes .entry)) (now (tables .entry))) (lutArrays (now (roots .exit)) (now (leaves .exit)) (now (sizes .exit)) (now (tables .exit))) ⌝ }
+    requires { ⌜ LutRoom (node .id + 1) (lutArrays (now luts) (now cuts) (now tables)) ⌝ }
+    ensures { λ _. ⌜ LutPut (lutListed (lutAt (dueOf terms) (now (sheet .entry)) at)) (node .id) (lutArrays (now (luts .entry)) (now (cuts .entry)) (now (tables .entry))) (lutArrays (now (luts .exit)) (now (cuts .exit)) (now (tables .exit))) ⌝ }
 {
     let v = node.id as usize;
     let width = terms.form.width;
     let cut = at + 3 + width;
     let count = small_at(sheet, cut, 1);
-    roots[v] = 1;
-    sizes[v] = count as u8;
+    luts[v] = 1;
     tables[v] = number_at(sheet, cut + 1 + count * width, 8);
-    put_leaves(sheet, cut + 1, width, count, leaves, node);
+    put_list(sheet, cut + 1, width, count, cuts, node);
 }

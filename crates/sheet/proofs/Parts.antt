@@ -5,7 +5,7 @@ use mathlib.Core.List.{List, _++_, flatMap}
 use native.Mathlib.Nat.{add-mul, mul-le-mul-right, one-mul}
 use native.Mathlib.Omega.{arith}
 use lib.ListN.{length, getD, length-take, length-drop}
-use Rattle.drawing.proofs.Digits.{take-more}
+use Rattle.storage.proofs.Entries.{take-more}
 use Rattle.sheet.specs.Encoding.{digits, idBytes}
 use Rattle.sheet.specs.Writing.{Room, Written, part}
 use Rattle.sheet.proofs.Numbers.{length-digits, length-ids, flat-more}

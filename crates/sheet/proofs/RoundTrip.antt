@@ -13,7 +13,11 @@ use Rattle.sheet.specs.declared.Ruling.{Ruling}
 use Rattle.sheet.specs.declared.Ruling.the-variants.{Sound, Faulty}
 use Rattle.sheet.specs.Sheet.{Line, Lut, Sheet, lineOf, lutOf}
 use Rattle.sheet.specs.Encoding.{digits, byte, leavesBytes, pathBytes, headField, lineValue, lineField, lutValue, lutField, encode}
-use Rattle.sheet.specs.Shape.{Due, Below, endAt, pathsAt, pathsUse, headRange, lineRange, lutRange, depthAt, countAt, headRuling, leavesAt, leavesEnd, lineCut, linePaths, lineAt, lineLengthWrong, lineRuling, lutCut, lutAt, lutLengthWrong, lutRuling, Fields, andField, linesFrom, lutsFrom, afterHead, afterLines, afterLuts, reading, LineShaped, LutShaped, LinesShaped, LutsShaped, Shaped}
+use Rattle.sheet.specs.Shape.{Due, Below, endAt, pathsAt, pathsUse, headRange, lineRange, lutRange, depthAt}
+use Rattle.sheet.specs.Shape.{countAt, headRuling, leavesAt, leavesEnd, lineCut, linePaths, lineAt}
+use Rattle.sheet.specs.Shape.{lineLengthWrong, lineRuling, lutCut, lutAt, lutLengthWrong, lutRuling, Fields}
+use Rattle.sheet.specs.Shape.{andField, linesFrom, lutsFrom, afterHead, afterLines, afterLuts, reading}
+use Rattle.sheet.specs.Shape.{LineShaped, LutShaped, LinesShaped, LutsShaped, Shaped}
 use Rattle.sheet.proofs.Numbers.{length-digits}
 use Rattle.sheet.proofs.Lengths.{length-three, length-leaves, length-lut-value}
 use Rattle.sheet.proofs.Standing.{Stands, stands-first, stands-then, number-stands, counted-stand, PathsStand, paths-stand, FieldStands, field-stands, field-sound}

@@ -172,7 +172,9 @@ sheet-shaped {net} {k} drawing {form} {most} fitting {lab} {sheet} kept numbered
       narrow = omega (arith, fitting .narrow);
       lines =
           all-lines (sheet .lines) (λ i inside.
-          line-shaped drawing fitting (kept .inputs) (record { above = omega arith; below = omega (arith, kept .gates) }) (getD (sheet .lines) i noLine) (numbered .least i inside) (numbered .greatest i inside) (kept .cuts i inside) (kept .backed i inside));
+          line-shaped drawing fitting (kept .inputs)
+          (record { above = omega arith; below = omega (arith, kept .gates) }) (getD (sheet .lines) i noLine)
+          (numbered .least i inside) (numbered .greatest i inside) (kept .cuts i inside) (kept .backed i inside));
       luts =
           all-luts (sheet .luts) (net .inputs) (λ some. numbered .roots 0 some .above) (numbered .rise) (λ i low inside above.
           lut-shaped drawing fitting low (getD (sheet .luts) i noLut) above (numbered .roots i inside .below) (kept .lut-cuts i inside) (numbered .tables i inside));

@@ -7,17 +7,10 @@ use native.Mathlib.Numerals.{add-one}
 use native.Mathlib.Omega.{arith}
 use lib.ListN.{length, set, length-append, length-set}
 use lib.Seq.{sets, length-sets, set-comm, set-set}
+use Rattle.storage.proofs.Stores.{sets-append, set-sets}
 use Rattle.sheet.specs.Encoding.{digits, field}
 use Rattle.sheet.specs.Writing.{Room, Written, Closed, opened}
 use Rattle.sheet.proofs.Numbers.{length-digits, rest-more, flat-more}
-use Rattle.drawing.proofs.Stores.{sets-append}
-
--- a store before a run of stores
-pub set-before : (l : List ℕ) (j a i : ℕ) (vs : List ℕ) → j < i → set (sets l i vs) j a ≡ sets (set l j a) i vs
-set-before l j a i [] h = refl
-set-before l j a i (v ∷ vs) h =
-    set-before (set l i v) j a (suc i) vs (omega arith)
-    ∙ ap (λ (m : List ℕ). sets m (suc i) vs) (set-comm l i j v a (λ e. omega arith))
 
 -- What the loop over a number's bytes keeps, which stores the low byte first: the last i of the bytes stand.
 pub record LowStored (before : List ℕ) (at number width : ℕ) (sheet : List ℕ) (rest i : ℕ) : Type 0 where
@@ -47,7 +40,7 @@ low-more {before} {at} {number} {width} {sheet} {rest} {i} low more =
       stored =
           ap (λ (m : List ℕ). set m place (rest % 256)) (low .stored)
           ∙ ap (λ (m : ℕ). set (sets before m (digits i number)) place (rest % 256)) behind
-          ∙ set-before before place (rest % 256) (suc place) (digits i number) (omega arith)
+          ∙ set-sets before place (rest % 256) (suc place) (digits i number) (omega arith)
           ∙ ap (λ (m : ℕ). sets (set before place (m % 256)) (suc place) (digits i number)) (low .left)
           ∙ ap (λ (m : ℕ). sets before place (digits m number)) (sym (add-one i))
           ∙ ap (λ (m : ℕ). sets before m (digits (i + 1) number)) (sym here);
@@ -95,8 +88,8 @@ written-more f front done x w one =
 stored-again : (l : List ℕ) (i a b x y : ℕ) (vs : List ℕ) →
     set (set (sets (set (set l i a) (suc i) b) (suc (suc i)) vs) i x) (suc i) y ≡ sets (set (set l i x) (suc i) y) (suc (suc i)) vs
 stored-again l i a b x y vs =
-    ap (λ (m : List ℕ). set m (suc i) y) (set-before (set (set l i a) (suc i) b) i x (suc (suc i)) vs (omega arith))
-    ∙ set-before (set (set (set l i a) (suc i) b) i x) (suc i) y (suc (suc i)) vs (omega arith)
+    ap (λ (m : List ℕ). set m (suc i) y) (set-sets (set (set l i a) (suc i) b) i x (suc (suc i)) vs (omega arith))
+    ∙ set-sets (set (set (set l i a) (suc i) b) i x) (suc i) y (suc (suc i)) vs (omega arith)
     ∙ ap (λ (m : List ℕ). sets (set m (suc i) y) (suc (suc i)) vs)
     (set-comm (set l i a) (suc i) i b x (λ e. omega arith) ∙ ap (λ (m : List ℕ). set m (suc i) b) (set-set l i a x))
     ∙ ap (λ (m : List ℕ). sets m (suc (suc i)) vs) (set-set (set l i x) (suc i) b y)

@@ -3,6 +3,7 @@ use Prim.Native.Nat.{ℕ, zero, suc, _/_, _%_, _^_}
 use mathlib.Core.List.{List, [], _∷_, _++_, flatMap}
 use lib.ListN.{length}
 use Rattle.sheet.specs.declared.Form.{Form}
+use Rattle.sheet.specs.Limits.{sheetTag, lineTag, lutTag}
 use Rattle.sheet.specs.Sheet.{Line, Lut, Sheet}
 
 -- "high byte first": a number in `width` bytes
@@ -31,7 +32,7 @@ pathBytes width path = digits width (length path) ++ idBytes width path
 
 -- A sheet's form is its three tags and the width of its ids, which is the width of depths, labels, LUT counts and path lengths too.
 abbrev pub narrow : Form
-narrow = record { width = 1; head = 16; line = 17; lut = 18 }
+narrow = record { width = 1; head = sheetTag; line = lineTag; lut = lutTag }
 
 module _ (form : Form) where
   -- "Tag 16, head, 3 bytes: version 1, depth, LUT count."

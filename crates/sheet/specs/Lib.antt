@@ -1,3 +1,4 @@
+pub mod Limits
 pub mod Sheet
 pub mod Encoding
 pub mod Writing

@@ -1,5 +1,5 @@
 // Bytes and numbers at a place of a buffer. Each function answers the next place.
-use drawing::CutSize;
+use storage::CutSize;
 ghost use Prim.Native.Nat.{_+_, _≤_};
 ghost use lib.ListN.{length};
 ghost use Rattle.sheet.specs.Encoding.{digits, idBytes, leavesBytes};

@@ -1,10 +1,14 @@
 // The bytes of a mapping sheet, written into a buffer that the caller lends.
 mod bytes;
 pub mod faults;
+pub mod limits;
 
-use drawing::CutSize;
-use drawing::Label;
-use drawing::Node;
+use crate::limits::HEAD;
+use crate::limits::LINE;
+use crate::limits::LUT;
+use storage::CutSize;
+use storage::Label;
+use storage::Node;
 ghost use mathlib.Core.Path.{_≡_};
 ghost use Prim.Native.Nat.{_+_, _≤_};
 ghost use lib.ListN.{length};
@@ -35,15 +39,15 @@ pub enum Ruling {
     Faulty(Fault),
 }
 
-// The form for drawings of at most 192 nodes.
+// The form of the paper's sheets.
 pub fn narrow_form() -> Form
     ensures { λ r. ⌜ r ≡ narrow ⌝ }
 {
     Form {
         width: 1,
-        head: 16,
-        line: 17,
-        lut: 18,
+        head: HEAD,
+        line: LINE,
+        lut: LUT,
     }
 }
 

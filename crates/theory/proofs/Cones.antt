@@ -117,3 +117,8 @@ module _ (net : Net) (tables : ℕ → ℕ) (ranked : Ranked net) (k t : ℕ) (l
       at-row : (c : ℕ) → ConeTable net tables leaves t c → (r : ℕ) → r < 2 ^ length leaves → rowValue net tables (ranked .rank) leaves r t ≡ resultAt c r
       at-row c tc r h =
           tc .value (rowValue net tables (ranked .rank) leaves r) (row-obeys r) ∙ ap (resultAt c) (ap rowOf (row-sets r) ∙ row-of-bits (length leaves) r h)
+
+-- a cone's table rests on the tables of the gates
+pub cone-table-same : {net : Net} {tables others : ℕ → ℕ} → ((v : ℕ) → Gate net v → tables v ≡ others v) →
+    {leaves : List ℕ} {t x : ℕ} → ConeTable net tables leaves t x → ConeTable net others leaves t x
+cone-table-same same c = record { value = λ y obeys. c .value y (λ g cone. rw (same g (cone .gate)) (obeys g cone)); rows = c .rows }

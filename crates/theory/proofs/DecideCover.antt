@@ -9,7 +9,9 @@ use Rattle.theory.specs.Net.{Net}
 use Rattle.theory.specs.Sound.{Bounded}
 use Rattle.theory.specs.Cover.{Luts, Wanted, Cover, lutsOf}
 use Rattle.theory.specs.Lists.{isMember}
-use Rattle.theory.proofs.Tests.{Decides, decides-as, decides-itself, _and-then_, decides-or, decides-if, decides-lt, decides-member, decides-every, decides-below, decides-some-below, every, everyBelow, someBelow}
+use Rattle.theory.proofs.Tests.{Decides, decides-as, decides-itself, _and-then_, decides-or, decides-if}
+use Rattle.theory.proofs.Tests.{decides-lt, decides-member, decides-every, decides-below, decides-some-below}
+use Rattle.theory.proofs.Tests.{every, everyBelow, someBelow}
 use Rattle.theory.proofs.DecideNet.{isGate, decides-gate}
 use Rattle.theory.proofs.DecideCut.{isCut, decides-cut}
 

@@ -11,7 +11,9 @@ use Rattle.theory.specs.Net.{Net}
 use Rattle.theory.specs.Sound.{Bounded}
 use Rattle.theory.specs.Walk.{Walked, Met, Behind, Loop, Cut, Cone}
 use Rattle.theory.specs.Lists.{isMember}
-use Rattle.theory.proofs.Tests.{Decides, decides-as, _and-then_, decides-or, decides-not, decides-if, decides-le, decides-lt, decides-equal, decides-member, decides-every, decides-below, decides-rising, every, everyBelow, isRising}
+use Rattle.theory.proofs.Tests.{Decides, decides-as, _and-then_, decides-or, decides-not, decides-if}
+use Rattle.theory.proofs.Tests.{decides-le, decides-lt, decides-equal, decides-member, decides-every}
+use Rattle.theory.proofs.Tests.{decides-below, decides-rising, every, everyBelow, isRising}
 use Rattle.theory.proofs.Walks.{fanin-node, met-node}
 use Rattle.theory.proofs.DecideNet.{isGate, decides-gate}
 use Rattle.theory.proofs.Marks.{Way, marked, reached, decides-way}

@@ -12,7 +12,9 @@ use Rattle.theory.specs.Sound.{Bounded}
 use Rattle.theory.specs.Lists.{greatest, isMember}
 use Rattle.theory.specs.Walk.{Behind}
 use Rattle.theory.specs.Evidence.{peak, InD, Outside, Run, TruePath, Evidence, joined}
-use Rattle.theory.proofs.Tests.{Decides, decides-as, _and-then_, decides-or, decides-not, decides-lt, decides-equal, decides-member, decides-every, decides-some-below, decides-apart, every, someBelow, isApart}
+use Rattle.theory.proofs.Tests.{Decides, decides-as, _and-then_, decides-or, decides-not, decides-lt}
+use Rattle.theory.proofs.Tests.{decides-equal, decides-member, decides-every, decides-some-below, decides-apart}
+use Rattle.theory.proofs.Tests.{every, someBelow, isApart}
 use Rattle.theory.proofs.DecideNet.{isGate, decides-gate}
 use Rattle.theory.proofs.DecideCut.{walkRows, isMetBy, isMet, isBehind, decides-behind}
 

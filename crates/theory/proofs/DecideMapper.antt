@@ -11,7 +11,9 @@ use Rattle.theory.specs.Sound.{Bounded}
 use Rattle.theory.specs.Lists.{greatest, isMember}
 use Rattle.theory.specs.Walk.{Cone}
 use Rattle.theory.specs.Evidence.{peak, LeastCut, DistinctFanins, MappersCut}
-use Rattle.theory.proofs.Tests.{Decides, decides-as, _and-then_, decides-or, decides-if, decides-le, decides-equal, decides-member, decides-every, decides-below, decides-rising, isRising, every, everyBelow}
+use Rattle.theory.proofs.Tests.{Decides, decides-as, _and-then_, decides-or, decides-if, decides-le}
+use Rattle.theory.proofs.Tests.{decides-equal, decides-member, decides-every, decides-below, decides-rising}
+use Rattle.theory.proofs.Tests.{isRising, every, everyBelow}
 use Rattle.theory.proofs.DecideCut.{isCut, decides-cut, walkRows, isConeBy, isCone, decides-cone}
 use Rattle.theory.proofs.DecideEvidence.{isOutside, decides-outside}
 use Rattle.theory.proofs.TriedCuts.{everyCut, decides-every-cut}

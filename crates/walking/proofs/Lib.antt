@@ -1,12 +1,12 @@
-pub mod Entries
 pub mod Counting
 pub mod Placing
 pub mod Orders
 pub mod Tests
-pub mod Listings
+pub mod Gatherings
 pub mod Fills
 pub mod SweepLoops
 pub mod Searches
+pub mod WalkRoles
 pub mod Walks
 pub mod WalkLoops
 pub mod Outcomes

@@ -11,15 +11,16 @@ use mathlib.Core.List.{List, [], _∷_, List·Memᴰ, List·Memᴰ·not-nil, Lis
 use lib.ListN.{length, getD}
 use lib.Dec.{ltb, eqb}
 use borrow.Author.Tests.{lt-ltb, le-ltb, eq-eqb, eqb-true}
+use Rattle.storage.specs.Drawings.{netIn, Drawn, Ordered}
+use Rattle.storage.proofs.Entries.{place-of, member-at, one-place}
+use Rattle.storage.proofs.Drawings.{fanins-out}
+use Rattle.storage.specs.Lists.{Place}
 use Rattle.theory.specs.Net.{Net, Gate, Input}
 use Rattle.theory.specs.Lists.{NoRepeats}
 use Rattle.theory.specs.Sound.{Bounded, Ranked}
 use Rattle.theory.specs.Walk.{Walked, Loop}
 use Rattle.theory.proofs.Walks.{input-or-gate, reader-is-gate}
-use Rattle.drawing.specs.Table.{netIn}
-use Rattle.walking.specs.Arrays.{Drawn, Ordered}
 use Rattle.walking.specs.Sweeps.{swept, sweptTimes, orderOf}
-use Rattle.walking.proofs.Entries.{Place, place-of, member-at, one-place, fanins-out}
 use Rattle.walking.proofs.Counting.{at-most-gates, all-listed, one-missing}
 use Rattle.walking.proofs.Placing.{grown-same, turns-grown, turns-still, Placed, swept-placed, order-placed, none-placed}
 
@@ -210,7 +211,7 @@ module _ {net : Net} {order : List ℕ} (ordered : Ordered net order) where
     unfoldable pub ranked : Ranked net
     ranked = record { rank = rankIn net order; rises = rank-rises }
 
-module _ {inputs nodes k : ℕ} {fan count : List ℕ} (drawn : Drawn inputs nodes k fan count) where
-  pub drawn-ranked : {order : List ℕ} → Ordered (netIn inputs nodes fan count) order → Ranked (netIn inputs nodes fan count)
+module _ {inputs nodes k : ℕ} {fanins : List ℕ} (drawn : Drawn inputs nodes k fanins) where
+  pub drawn-ranked : {order : List ℕ} → Ordered (netIn inputs nodes fanins) order → Ranked (netIn inputs nodes fanins)
   unfolding netIn
-  drawn-ranked ordered = ranked ordered (drawn .bounded) (fanins-out inputs nodes fan count)
+  drawn-ranked ordered = ranked ordered (drawn .bounded) (fanins-out inputs nodes fanins)

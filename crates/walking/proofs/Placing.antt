@@ -11,18 +11,17 @@ use lib.ListN.{length, getD, length-append, List·getD-append}
 use lib.Seq.{getD-append-seam}
 use lib.Dec.{ltb}
 use borrow.Author.Tests.{lt-ltb, le-ltb}
+use Rattle.storage.proofs.Entries.{place-of, member-more, no-repeats-more, is-member, no-member}
 use Rattle.theory.specs.Net.{Net, Gate}
-use Rattle.theory.specs.Lists.{NoRepeats}
+use Rattle.theory.specs.Lists.{NoRepeats, isMember}
 use Rattle.theory.proofs.Decisions.{decide-member}
-use Rattle.theory.specs.Lists.{isMember}
 use Rattle.walking.specs.Sweeps.{ready, turn, turnsFrom, swept, sweptTimes, orderOf}
-use Rattle.walking.specs.Listing.{Settled}
-use Rattle.walking.proofs.Entries.{place-of, member-more, no-repeats-more, is-member, no-member}
+use Rattle.walking.specs.Gathering.{Settled}
 
 module _ (net : Net) where
   -- Readiness
 
-  abbrev AllSettled : List ℕ → List ℕ → Type 0
+  abbrev pub AllSettled : List ℕ → List ℕ → Type 0
   AllSettled l us = (u : ℕ) → List·Memᴰ u us → Settled (net .inputs) l u
 
   -- one of the nodes is a gate that is not placed

@@ -12,17 +12,19 @@ use lib.Seq.{drop-cons, getD-take, drop-length}
 use lib.Dec.{ltb}
 use borrow.Author.Tests.{lt-ltb, le-ltb}
 use mathlib.Core.Bool.{Bool, true, false, or-true}
+use Rattle.storage.specs.Drawings.{netIn}
+use Rattle.storage.specs.Marks.{Tells}
+use Rattle.storage.specs.Lists.{listAt}
+use Rattle.storage.proofs.Entries.{member-more, member-last, is-member, no-member, member-of-part, part-place}
+use Rattle.storage.proofs.Drawings.{fanins-in}
 use Rattle.theory.specs.Walk.{Walked, Behind, Loop}
 use Rattle.theory.proofs.Walks.{behind-on}
 use Rattle.theory.proofs.Decisions.{decide-member}
-use Rattle.drawing.specs.Table.{netIn}
-use Rattle.walking.specs.Listing.{Tells, Settled, Listing, Listed, Added, noted, notedAll, faninsAt}
-use Rattle.walking.specs.Searching.{Kept, Searched, LowestFound}
+use Rattle.walking.specs.Gathering.{Settled, Listing, Kept, Listed, Added, noted, notedAll}
+use Rattle.walking.specs.Searching.{Searched, LowestFound}
 use Rattle.walking.specs.Promises.{LoopRuling}
 use Rattle.walking.specs.declared.Ordering.the-variants.{Whole, LoopAt}
-use Rattle.walking.proofs.Fills.{started, started-size, started-beyond}
-use Rattle.walking.proofs.Entries.{member-more, member-last, is-member, no-member, fanins-in, member-of-part, part-place}
-use Rattle.walking.proofs.Listings.{listing-size, listed-same, listed-on, listed-as, note-listed}
+use Rattle.walking.proofs.Gatherings.{listing-size, kept-on, listed-same, listed-on, listed-as, note-listed}
 
 -- The list of nodes noted
 
@@ -88,21 +90,21 @@ module _ (inputs : ℕ) where
 
 -- The loop over a gate's fanins
 
-pub record NotesLeft (inputs nodes : ℕ) (fan count list₀ marks₀ : List ℕ) (size : ℕ) (us list marks : List ℕ) (listed i : ℕ) : Type 0 where
+pub record NotesLeft (inputs nodes : ℕ) (fanins list₀ marks₀ : List ℕ) (size : ℕ) (us list marks : List ℕ) (listed i : ℕ) : Type 0 where
   pub low : i ≤ length us
-  pub now : Listed inputs nodes fan count list₀ marks₀ list marks listed (take listed list)
+  pub now : Listed inputs nodes fanins list₀ marks₀ list marks listed (take listed list)
   pub same : notedAll inputs (take listed list) (drop i us) ≡ notedAll inputs (take size list₀) us
 
-module _ {inputs nodes : ℕ} {fan count list₀ marks₀ : List ℕ} {size : ℕ} (us : List ℕ) where
-  pub notes-start : Listing inputs nodes fan count list₀ marks₀ size → NotesLeft inputs nodes fan count list₀ marks₀ size us list₀ marks₀ size 0
+module _ {inputs nodes : ℕ} {fanins list₀ marks₀ : List ℕ} {size : ℕ} (us : List ℕ) where
+  pub notes-start : Listing inputs nodes fanins list₀ marks₀ size → NotesLeft inputs nodes fanins list₀ marks₀ size us list₀ marks₀ size 0
   notes-start l = record { low = omega arith; now = listed-same l; same = refl }
 
-  module _ {list marks : List ℕ} {listed i : ℕ} (left : NotesLeft inputs nodes fan count list₀ marks₀ size us list marks listed i) where
+  module _ {list marks : List ℕ} {listed i : ℕ} (left : NotesLeft inputs nodes fanins list₀ marks₀ size us list marks listed i) where
     pub notes-turn : {list′ marks′ : List ℕ} {listed′ : ℕ} {v : ℕ} → i < length us → v ≡ getD us i 0 → v < nodes →
-        Added [] v list marks listed list′ marks′ listed′ → NotesLeft inputs nodes fan count list₀ marks₀ size us list′ marks′ listed′ (i + 1)
+        Added [] v list marks listed list′ marks′ listed′ → NotesLeft inputs nodes fanins list₀ marks₀ size us list′ marks′ listed′ (i + 1)
     unfolding notedAll
-    notes-turn {v = v} inside here node added =
-        let step = note-listed (left .now .listing) node added in
+    notes-turn {v = v} inside here node put =
+        let step = note-listed (left .now .listing) node put in
         let due : drop i us ≡ v ∷ drop (i + 1) us = rw (add-one, here) (drop-cons us i 0 inside) in
         record {
           low = omega arith;
@@ -110,7 +112,7 @@ module _ {inputs nodes : ℕ} {fan count list₀ marks₀ : List ℕ} {size : �
           same = rw (step .entries) (sym (ap (notedAll inputs (take listed list)) due) ∙ left .same);
         }
 
-    pub notes-end : length us ≤ i → Listed inputs nodes fan count list₀ marks₀ list marks listed (notedAll inputs (take size list₀) us)
+    pub notes-end : length us ≤ i → Listed inputs nodes fanins list₀ marks₀ list marks listed (notedAll inputs (take size list₀) us)
     unfolding notedAll
     notes-end all =
         let last : i ≡ length us = omega (arith, left .low) in
@@ -119,43 +121,43 @@ module _ {inputs nodes : ℕ} {fan count list₀ marks₀ : List ℕ} {size : �
 
 -- The search
 
-pub record SearchLeft (inputs nodes : ℕ) (fan count : List ℕ) (g : ℕ) (list marks : List ℕ) (size done : ℕ) : Type 0 where
+pub record SearchLeft (inputs nodes : ℕ) (fanins : List ℕ) (g : ℕ) (list marks : List ℕ) (size done : ℕ) : Type 0 where
   pub low : done ≤ size
-  pub listing : Listing inputs nodes fan count list marks size
-  pub behind : (v : ℕ) → List·Memᴰ v (take size list) → Behind (netIn inputs nodes fan count) g v
-  pub first : (u : ℕ) → List·Memᴰ u (netIn inputs nodes fan count .fanins g) → Settled inputs (take size list) u
-  pub closed : (i u : ℕ) → i < done → List·Memᴰ u (netIn inputs nodes fan count .fanins (getD list i 0)) → Settled inputs (take size list) u
+  pub listing : Listing inputs nodes fanins list marks size
+  pub behind : (v : ℕ) → List·Memᴰ v (take size list) → Behind (netIn inputs nodes fanins) g v
+  pub first : (u : ℕ) → List·Memᴰ u (netIn inputs nodes fanins .fanins g) → Settled inputs (take size list) u
+  pub closed : (i u : ℕ) → i < done → List·Memᴰ u (netIn inputs nodes fanins .fanins (getD list i 0)) → Settled inputs (take size list) u
 
-module _ {inputs nodes : ℕ} {fan count : List ℕ} where
+module _ {inputs nodes : ℕ} {fanins : List ℕ} where
   module _ (g : ℕ) (node : g < nodes) where
     pub search-start : {list marks list′ marks′ : List ℕ} {size′ : ℕ} →
-        Listed inputs nodes fan count list marks list′ marks′ size′ (notedAll inputs [] (faninsAt fan count g)) →
-        SearchLeft inputs nodes fan count g list′ marks′ size′ 0
+        Listed inputs nodes fanins list marks list′ marks′ size′ (notedAll inputs [] (listAt fanins g)) →
+        SearchLeft inputs nodes fanins g list′ marks′ size′ 0
     search-start n =
-        let us = fanins-in inputs nodes fan count g node in
+        let us = fanins-in inputs nodes fanins g node in
         record {
           low = omega arith;
           listing = n .listing;
           behind =
               λ v m.
               ⊎-elim (λ (none : List·Memᴰ v []). absurd (List·Memᴰ·not-nil none))
-              (λ (here : List·Memᴰ v (faninsAt fan count g)). record { reader = g; walked = Walked.start; feeds = subst (List·Memᴰ v) (sym us) here })
-              (notes-from inputs [] (faninsAt fan count g) v (subst (List·Memᴰ v) (n .entries) m));
+              (λ (here : List·Memᴰ v (listAt fanins g)). record { reader = g; walked = Walked.start; feeds = subst (List·Memᴰ v) (sym us) here })
+              (notes-from inputs [] (listAt fanins g) v (subst (List·Memᴰ v) (n .entries) m));
           first =
               λ u m.
-              subst (λ (x : List ℕ). Settled inputs x u) (sym (n .entries)) (notes-settle inputs [] (faninsAt fan count g) u (subst (List·Memᴰ u) us m));
+              subst (λ (x : List ℕ). Settled inputs x u) (sym (n .entries)) (notes-settle inputs [] (listAt fanins g) u (subst (List·Memᴰ u) us m));
           closed = λ i u none m. absurd (omega arith);
         }
 
-    module _ {list marks : List ℕ} {size done : ℕ} (left : SearchLeft inputs nodes fan count g list marks size done) where
+    module _ {list marks : List ℕ} {size done : ℕ} (left : SearchLeft inputs nodes fanins g list marks size done) where
       pub next-gate : done < size → (inputs ≤ getD list done 0) × (getD list done 0 < nodes)
       next-gate more =
           left .listing .gates (getD list done 0)
           (member-of-part size list done more (omega (arith, left .listing .few, left .listing .list-long)))
 
       pub search-turn : {list′ marks′ : List ℕ} {size′ : ℕ} {v : ℕ} → done < size → v ≡ getD list done 0 →
-          Listed inputs nodes fan count list marks list′ marks′ size′ (notedAll inputs (take size list) (faninsAt fan count v)) →
-          SearchLeft inputs nodes fan count g list′ marks′ size′ (done + 1)
+          Listed inputs nodes fanins list marks list′ marks′ size′ (notedAll inputs (take size list) (listAt fanins v)) →
+          SearchLeft inputs nodes fanins g list′ marks′ size′ (done + 1)
       search-turn {list′} {marks′} {size′} {v} more here n =
           record {
             low = omega (arith, grown);
@@ -163,18 +165,18 @@ module _ {inputs nodes : ℕ} {fan count : List ℕ} where
             behind =
                 λ u m.
                 ⊎-elim (left .behind u)
-                (λ (feeds : List·Memᴰ u (faninsAt fan count v)).
+                (λ (feeds : List·Memᴰ u (listAt fanins v)).
                 behind-on now (Walked.step Walked.start (subst (List·Memᴰ u) (sym us) feeds) List·Memᴰ·not-nil))
-                (notes-from inputs (take size list) (faninsAt fan count v) u (subst (List·Memᴰ u) (n .entries) m));
+                (notes-from inputs (take size list) (listAt fanins v) u (subst (List·Memᴰ u) (n .entries) m));
             first = λ u m. wider (left .first u m);
             closed = λ i u below m. either i u below m (ℕ-discrete i done);
           }
         where
-          us : netIn inputs nodes fan count .fanins v ≡ faninsAt fan count v
-          us = fanins-in inputs nodes fan count v (omega (arith, next-gate more))
+          us : netIn inputs nodes fanins .fanins v ≡ listAt fanins v
+          us = fanins-in inputs nodes fanins v (omega (arith, next-gate more))
 
           longer : Longer inputs (take size list) (take size′ list′)
-          longer = rw (n .entries) (notes-longer inputs (take size list) (faninsAt fan count v))
+          longer = rw (n .entries) (notes-longer inputs (take size list) (listAt fanins v))
 
           held : length (take size list) ≡ size
           held = listing-size (left .listing)
@@ -185,7 +187,7 @@ module _ {inputs nodes : ℕ} {fan count : List ℕ} where
           wider : {u : ℕ} → Settled inputs (take size list) u → Settled inputs (take size′ list′) u
           wider s = longer-settled inputs longer s
 
-          now : Behind (netIn inputs nodes fan count) g v
+          now : Behind (netIn inputs nodes fanins) g v
           now = left .behind v (subst (λ (x : ℕ). List·Memᴰ x (take size list)) (sym here)
               (member-of-part size list done more (omega (arith, left .listing .few, left .listing .list-long))))
 
@@ -196,38 +198,38 @@ module _ {inputs nodes : ℕ} {fan count : List ℕ} where
               ∙ List·getD-append (take size list) (longer .new) 0 i (omega (arith, held))
               ∙ getD-take size list i 0 below
 
-          settled : (u : ℕ) → List·Memᴰ u (netIn inputs nodes fan count .fanins v) → Settled inputs (take size′ list′) u
-          settled u m = subst (λ (x : List ℕ). Settled inputs x u) (sym (n .entries)) (notes-settle inputs (take size list) (faninsAt fan count v) u (subst (List·Memᴰ u) us m))
+          settled : (u : ℕ) → List·Memᴰ u (netIn inputs nodes fanins .fanins v) → Settled inputs (take size′ list′) u
+          settled u m = subst (λ (x : List ℕ). Settled inputs x u) (sym (n .entries)) (notes-settle inputs (take size list) (listAt fanins v) u (subst (List·Memᴰ u) us m))
 
-          either : (i u : ℕ) → i < done + 1 → List·Memᴰ u (netIn inputs nodes fan count .fanins (getD list′ i 0)) → Dec (i ≡ done) → Settled inputs (take size′ list′) u
+          either : (i u : ℕ) → i < done + 1 → List·Memᴰ u (netIn inputs nodes fanins .fanins (getD list′ i 0)) → Dec (i ≡ done) → Settled inputs (take size′ list′) u
           either i u below m (yes e) =
               let same : getD list′ i 0 ≡ v = old i (omega arith) ∙ ap (λ (x : ℕ). getD list x 0) e ∙ sym here in
-              settled u (subst (λ (x : ℕ). List·Memᴰ u (netIn inputs nodes fan count .fanins x)) same m)
+              settled u (subst (λ (x : ℕ). List·Memᴰ u (netIn inputs nodes fanins .fanins x)) same m)
           either i u below m (no apart) =
               let earlier : i < done = omega arith in
-              wider (left .closed i u earlier (subst (λ (x : ℕ). List·Memᴰ u (netIn inputs nodes fan count .fanins x)) (old i (omega arith)) m))
+              wider (left .closed i u earlier (subst (λ (x : ℕ). List·Memᴰ u (netIn inputs nodes fanins .fanins x)) (old i (omega arith)) m))
 
       module _ (gate : inputs ≤ g) (all : size ≤ done) where
         -- the fanins of what is listed, and of g, are settled
-        on-from : (w v : ℕ) → List·Memᴰ v (netIn inputs nodes fan count .fanins w) → (w ≡ g) ⊎ Settled inputs (take size list) w →
+        on-from : (w v : ℕ) → List·Memᴰ v (netIn inputs nodes fanins .fanins w) → (w ≡ g) ⊎ Settled inputs (take size list) w →
             Settled inputs (take size list) v
         unfolding netIn
-        on-from w v m (inl e) = left .first v (subst (λ (x : ℕ). List·Memᴰ v (netIn inputs nodes fan count .fanins x)) e m)
+        on-from w v m (inl e) = left .first v (subst (λ (x : ℕ). List·Memᴰ v (netIn inputs nodes fanins .fanins x)) e m)
         on-from w v m (inr (inl low)) =
             absurd (List·Memᴰ·not-nil (subst (List·Memᴰ v) (left .listing .drawn .bounded .inputs-feed w low) m))
         on-from w v m (inr (inr here)) =
             let p = part-place size list here in
             left .closed (p .at) v (omega (arith, p .low))
-            (subst (λ (x : ℕ). List·Memᴰ v (netIn inputs nodes fan count .fanins x)) (sym (p .entry)) m)
+            (subst (λ (x : ℕ). List·Memᴰ v (netIn inputs nodes fanins .fanins x)) (sym (p .entry)) m)
 
-        reached : {v : ℕ} → Walked (netIn inputs nodes fan count) [] g v → (v ≡ g) ⊎ Settled inputs (take size list) v
+        reached : {v : ℕ} → Walked (netIn inputs nodes fanins) [] g v → (v ≡ g) ⊎ Settled inputs (take size list) v
         reached Walked.start = inl refl
         reached (Walked.step {v = w} {u = v} way m _) = inr (on-from w v m (reached way))
 
-        met-settled : (v : ℕ) → Behind (netIn inputs nodes fan count) g v → Settled inputs (take size list) v
+        met-settled : (v : ℕ) → Behind (netIn inputs nodes fanins) g v → Settled inputs (take size list) v
         met-settled v b = on-from (b .reader) v (b .feeds) (reached (b .walked))
 
-        pub search-tells : {r : Bool} → Tells (getD marks g 0 ≡ 1) r → Tells (Loop (netIn inputs nodes fan count) g) r
+        pub search-tells : {r : Bool} → Tells (getD marks g 0 ≡ 1) r → Tells (Loop (netIn inputs nodes fanins) g) r
         search-tells t =
             record {
               yes =
@@ -237,51 +239,22 @@ module _ {inputs nodes : ℕ} {fan count : List ℕ} where
               no = λ e loop. t .no e (left .listing .settled .marked g node (met-settled g loop));
             }
 
--- What is kept
-
-pub kept-same : {inputs nodes : ℕ} {list marks : List ℕ} → Kept inputs nodes list marks list marks
-kept-same = record { list-size = refl; list-beyond = refl; marks-size = refl; marks-beyond = refl }
-
-pub kept-on : {inputs nodes : ℕ} {list marks list′ marks′ list″ marks″ : List ℕ} → Kept inputs nodes list marks list′ marks′ →
-    Kept inputs nodes list′ marks′ list″ marks″ → Kept inputs nodes list marks list″ marks″
-kept-on k n =
-    record {
-      list-size = n .list-size ∙ k .list-size;
-      list-beyond = n .list-beyond ∙ k .list-beyond;
-      marks-size = n .marks-size ∙ k .marks-size;
-      marks-beyond = n .marks-beyond ∙ k .marks-beyond;
-    }
-
-pub kept-listed : {inputs nodes : ℕ} {fan count list marks list′ marks′ : List ℕ} {size′ : ℕ} {l : List ℕ} →
-    Listed inputs nodes fan count list marks list′ marks′ size′ l → Kept inputs nodes list marks list′ marks′
-kept-listed n = record { list-size = n .list-size; list-beyond = n .list-beyond; marks-size = n .marks-size; marks-beyond = n .marks-beyond }
-
-pub kept-started : {inputs nodes : ℕ} {list marks marks′ : List ℕ} → inputs ≤ nodes → nodes ≤ length marks → marks′ ≡ started inputs nodes marks →
-    Kept inputs nodes list marks list marks′
-kept-started {inputs} {nodes} {marks = marks} span long e =
-    record {
-      list-size = refl;
-      list-beyond = refl;
-      marks-size = ap length e ∙ started-size inputs nodes span marks long;
-      marks-beyond = ap (drop nodes) e ∙ started-beyond inputs nodes span marks long;
-    }
-
 -- Gate after gate
 
-pub record LowestLeft (inputs nodes : ℕ) (fan count list₀ marks₀ list marks : List ℕ) (v : ℕ) : Type 0 where
+pub record LowestLeft (inputs nodes : ℕ) (fanins list₀ marks₀ list marks : List ℕ) (v : ℕ) : Type 0 where
   pub low : inputs ≤ v
   pub high : v ≤ nodes
   pub kept : Kept inputs nodes list₀ marks₀ list marks
-  pub none : (h : ℕ) → inputs ≤ h → h < v → Loop (netIn inputs nodes fan count) h → ⊥
+  pub none : (h : ℕ) → inputs ≤ h → h < v → Loop (netIn inputs nodes fanins) h → ⊥
 
-module _ {inputs nodes : ℕ} {fan count list₀ marks₀ list marks : List ℕ} {v : ℕ}
-    (left : LowestLeft inputs nodes fan count list₀ marks₀ list marks v) where
-  pub lowest-none : nodes ≤ v → LowestFound inputs nodes fan count list₀ marks₀ Whole list marks
+module _ {inputs nodes : ℕ} {fanins list₀ marks₀ list marks : List ℕ} {v : ℕ}
+    (left : LowestLeft inputs nodes fanins list₀ marks₀ list marks v) where
+  pub lowest-none : nodes ≤ v → LowestFound inputs nodes fanins list₀ marks₀ Whole list marks
   unfolding netIn
   lowest-none all = record { reply = LoopRuling.none (λ g gate. left .none g (gate .above) (omega (arith, gate .below))); kept = left .kept }
 
-  module _ {r : Bool} {list′ marks′ : List ℕ} (node : v < nodes) (searched : Searched inputs nodes fan count list marks v r list′ marks′) where
-    pub lowest-turn : r ≡ false → LowestLeft inputs nodes fan count list₀ marks₀ list′ marks′ (v + 1)
+  module _ {r : Bool} {list′ marks′ : List ℕ} (node : v < nodes) (searched : Searched inputs nodes fanins list marks v r list′ marks′) where
+    pub lowest-turn : r ≡ false → LowestLeft inputs nodes fanins list₀ marks₀ list′ marks′ (v + 1)
     lowest-turn out =
         record {
           low = omega (arith, left .low);
@@ -290,11 +263,11 @@ module _ {inputs nodes : ℕ} {fan count list₀ marks₀ list marks : List ℕ}
           none = λ h above below loop. either h above below loop (ℕ-discrete h v);
         }
       where
-        either : (h : ℕ) → inputs ≤ h → h < v + 1 → Loop (netIn inputs nodes fan count) h → Dec (h ≡ v) → ⊥
-        either h above below loop (yes e) = searched .reply .no out (subst (Loop (netIn inputs nodes fan count)) e loop)
+        either : (h : ℕ) → inputs ≤ h → h < v + 1 → Loop (netIn inputs nodes fanins) h → Dec (h ≡ v) → ⊥
+        either h above below loop (yes e) = searched .reply .no out (subst (Loop (netIn inputs nodes fanins)) e loop)
         either h above below loop (no apart) = left .none h above (omega arith) loop
 
-    pub lowest-found : r ≡ true → LowestFound inputs nodes fan count list₀ marks₀ (LoopAt (record { id = v })) list′ marks′
+    pub lowest-found : r ≡ true → LowestFound inputs nodes fanins list₀ marks₀ (LoopAt (record { id = v })) list′ marks′
     unfolding netIn
     lowest-found found =
         record {

@@ -1,6 +1,5 @@
-pub mod Arrays
 pub mod Sweeps
-pub mod Listing
+pub mod Gathering
 pub mod Walking
 pub mod Promises
 pub mod Searching

@@ -1,14 +1,17 @@
 // Loops found, the order of the gates made, cones walked. Arrays in, arrays out; no bytes.
 mod cones;
-mod listing;
+mod gathering;
 mod loops;
 mod marking;
+pub mod roles;
 mod sweeping;
 
-use drawing::CutSize;
-use drawing::Node;
+use storage::CutSize;
+use storage::Node;
+use storage::Numbers;
+use storage::roles::WALKED;
 ghost use lib.ListN.{take};
-ghost use Rattle.drawing.specs.Table.{netIn};
+ghost use Rattle.storage.specs.Drawings.{netIn};
 ghost use Rattle.walking.specs.Promises.{OrderRoom, OrderMade, WalkRoom, WalkMade, CutRuled};
 
 // The order is made, or the lowest gate that reaches itself.
@@ -21,97 +24,82 @@ pub enum Ordering {
 // one where fanins have lower ids, as many as gates in a chain that is numbered backwards. Only where gates are left over is a
 // loop looked for, back from each gate; `order` is its worklist, and is then cleared.
 pub fn order_gates(
-    fan: &[u16],
-    count: &[u8],
-    inputs: usize,
-    nodes: usize,
+    numbers: Numbers,
+    fanins: &[u16],
     order: &mut [u16],
     marks: &mut [u8],
 ) -> Ordering
-    requires { ⌜ OrderRoom inputs nodes (now fan) (now count) (now order) (now marks) ⌝ }
-    ensures { λ r. ⌜ OrderMade (netIn inputs nodes (now (fan .entry)) (now (count .entry))) (now (order .entry)) (now (marks .entry)) r (now (order .exit)) (now (marks .exit)) ⌝ }
+    requires { ⌜ OrderRoom (numbers .inputs) (numbers .nodes) (now fanins) (now order) (now marks) ⌝ }
+    ensures { λ r. ⌜ OrderMade (netIn (numbers .inputs) (numbers .nodes) (now (fanins .entry))) (now (order .entry)) (now (marks .entry)) r
+        (now (order .exit)) (now (marks .exit)) ⌝ }
 {
-    marking::start(marks, inputs, nodes);
-    let placed = sweeping::sweep_all(fan, count, inputs, nodes, order, marks);
-    if placed == nodes - inputs {
-        marking::fill(marks, nodes, 0);
+    let nodes = numbers.nodes;
+    let gates = nodes - numbers.inputs;
+    marking::start(marks, numbers.inputs, nodes);
+    if sweeping::sweep_all(numbers, fanins, order, marks) == gates {
+        storage::marks::clear(marks, nodes);
         return Ordering::Whole;
     }
-    let found = loops::lowest_loop(fan, count, inputs, nodes, order, marks);
-    listing::clear(order, nodes - inputs);
-    marking::fill(marks, nodes, 0);
+    let found = loops::lowest_loop(numbers, fanins, order, marks);
+    storage::columns::clear(order, gates);
+    storage::marks::clear(marks, nodes);
     found
 }
 
-// Walks back from `root` and stops at the leaves, in one pass back along the order: marks the nodes walked and the nodes met.
-// With no leaves, the nodes met are those behind it.
+// Walks back from `root` and stops at the leaves, in one pass back along the order: the roles say which nodes are walked and which
+// are met. With no leaves, the nodes met are those behind it.
 pub fn walk(
-    fan: &[u16],
-    count: &[u8],
-    inputs: usize,
-    nodes: usize,
+    numbers: Numbers,
+    fanins: &[u16],
     order: &[u16],
     root: Node,
     leaves: &[u16],
     size: CutSize,
-    walked: &mut [u8],
-    met: &mut [u8],
+    roles: &mut [u8],
 )
-    requires { ⌜ WalkRoom inputs nodes (now fan) (now count) (now order) (root .id) (now leaves) (size .leaves) (now walked) (now met) ⌝ }
-    ensures { λ _. ⌜ WalkMade (netIn inputs nodes (now (fan .entry)) (now (count .entry))) (take (size .leaves) (now (leaves .entry))) (root .id) (now (walked .entry)) (now (met .entry)) (now (walked .exit)) (now (met .exit)) ⌝ }
+    requires { ⌜ WalkRoom (numbers .inputs) (numbers .nodes) (numbers .k .leaves) (now fanins) (now order) (root .id) (now leaves) (size .leaves) (now roles) ⌝ }
+    ensures { λ _. ⌜ WalkMade (netIn (numbers .inputs) (numbers .nodes) (now (fanins .entry))) (take (size .leaves) (now (leaves .entry))) (root .id)
+        (now (roles .entry)) (now (roles .exit)) ⌝ }
 {
-    marking::fill(walked, nodes, 0);
-    marking::fill(met, nodes, 0);
-    let start = root.id;
-    marking::mark(walked, Node { id: start });
+    let inputs = numbers.inputs;
+    let nodes = numbers.nodes;
+    storage::marks::clear(roles, nodes);
+    let start = root.id as usize;
+    roles[start] = WALKED;
     let mut i = nodes - inputs;
     while 0 < i {
         i -= 1;
         let gate = Node { id: order[i] };
-        cones::pass(fan, count, gate, leaves, size, walked, met);
+        cones::pass(fanins, gate, leaves, size, roles);
     }
 }
 
-// Is the list of leaves a cut of the gate, with at most K leaves? The marks are left as `walk` leaves them.
+// Is the list of leaves a cut of the gate, with at most K leaves? The roles are left as `walk` leaves them.
 pub fn is_cut(
-    fan: &[u16],
-    count: &[u8],
-    inputs: usize,
-    nodes: usize,
+    numbers: Numbers,
+    fanins: &[u16],
     order: &[u16],
-    k: CutSize,
     gate: Node,
     leaves: &[u16],
     size: CutSize,
-    walked: &mut [u8],
-    met: &mut [u8],
+    roles: &mut [u8],
 ) -> bool
-    requires { ⌜ WalkRoom inputs nodes (now fan) (now count) (now order) (gate .id) (now leaves) (size .leaves) (now walked) (now met) ⌝ }
-    ensures { λ r. ⌜ CutRuled (netIn inputs nodes (now (fan .entry)) (now (count .entry))) (k .leaves) (take (size .leaves) (now (leaves .entry))) (gate .id) (now (walked .entry)) (now (met .entry)) r (now (walked .exit)) (now (met .exit)) ⌝ }
+    requires { ⌜ WalkRoom (numbers .inputs) (numbers .nodes) (numbers .k .leaves) (now fanins) (now order) (gate .id) (now leaves) (size .leaves) (now roles) ⌝ }
+    ensures { λ r. ⌜ CutRuled (netIn (numbers .inputs) (numbers .nodes) (now (fanins .entry))) (numbers .k .leaves) (take (size .leaves) (now (leaves .entry))) (gate .id)
+        (now (roles .entry)) r (now (roles .exit)) ⌝ }
 {
-    walk(
-        fan,
-        count,
-        inputs,
-        nodes,
-        order,
-        gate,
-        leaves,
-        size,
-        walked,
-        met,
-    );
+    walk(numbers, fanins, order, gate, leaves, size, roles);
     if size.leaves == 0 {
         return false;
     }
-    if size.leaves > k.leaves {
+    if size.leaves > numbers.k.leaves {
         return false;
     }
     if !cones::is_rising(leaves, size) {
         return false;
     }
-    if !cones::leaves_met(leaves, size, nodes, met) {
+    if !cones::leaves_met(leaves, size, numbers.nodes, roles) {
         return false;
     }
-    cones::inputs_stop(leaves, size, inputs, met)
+    cones::inputs_stop(leaves, size, numbers.inputs, roles)
 }

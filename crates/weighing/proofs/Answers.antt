@@ -1,14 +1,13 @@
 -- Each promise has one answer: two replies that it allows are equal, and so are the later contents of what is lent.
 use Prim.Native.Nat.{ℕ, _<_}
 use native.Mathlib.Omega.{arith}
-use mathlib.Core.Path.{_≡_, refl, ap, sym, subst}
+use mathlib.Core.Path.{_≡_, refl, ap, sym, subst, _∙_}
 use mathlib.Core.Bool.{true}
 use mathlib.Core.List.{List}
+use Rattle.storage.specs.declared.Node.{Node}
 use Rattle.theory.specs.Net.{Net}
 use Rattle.theory.specs.Walk.{Cut}
 use Rattle.theory.specs.Cover.{Luts}
-use Rattle.drawing.specs.declared.Node.{Node}
-use Rattle.covering.proofs.Answers.{cleared-once}
 use Rattle.weighing.specs.declared.luts.LutsJudged.{LutsJudged}
 use Rattle.weighing.specs.declared.luts.LutsJudged.the-variants as luts-judged
 use Rattle.weighing.specs.declared.whole.WholeJudged.{WholeJudged}
@@ -48,15 +47,11 @@ module _ {net : Net} {tables : ℕ → ℕ} {k : ℕ} {luts : Luts} {table : ℕ
       let same = same-root at at′ below below′ (λ kept. none (kept .function)) (λ kept. none′ (kept .cut)) in
       absurd (none′ (subst (λ (x : ℕ). Cut net k x (luts .leaves x)) same cut))
 
-pub luts-answer-once : (inputs nodes k : ℕ) (fan count rows roots leaves sizes tables walked met values : List ℕ) {r r′ : LutsJudged} {w w′ m m′ v v′ : List ℕ} →
-    LutsAnswered inputs nodes k fan count rows roots leaves sizes tables walked met values r w m v →
-    LutsAnswered inputs nodes k fan count rows roots leaves sizes tables walked met values r′ w′ m′ v′ → (r ≡ r′) × (w ≡ w′) × (m ≡ m′) × (v ≡ v′)
-luts-answer-once inputs nodes k fan count rows roots leaves sizes tables walked met values {w = w} {w′} {m} {m′} {v} {v′} p q = (
-  luts-one (p .reply) (q .reply),
-  cleared-once nodes walked w w′ (p .walked-left) (q .walked-left),
-  cleared-once nodes met m m′ (p .met-left) (q .met-left),
-  cleared-once nodes values v v′ (p .values-left) (q .values-left),
-)
+pub luts-answer-once : {inputs nodes k : ℕ} {fanins rows luts cuts tables roles values : List ℕ} {r r′ : LutsJudged} {roles′ roles″ values′ values″ : List ℕ} →
+    LutsAnswered inputs nodes k fanins rows luts cuts tables roles values r roles′ values′ →
+    LutsAnswered inputs nodes k fanins rows luts cuts tables roles values r′ roles″ values″ → (r ≡ r′) × (roles′ ≡ roles″) × (values′ ≡ values″)
+luts-answer-once p q =
+    (luts-one (p .reply) (q .reply), p .roles-clear ∙ sym (q .roles-clear), p .values-clear ∙ sym (q .values-clear))
 
 -- Pass four
 
@@ -74,11 +69,8 @@ whole-one (WholeRuled.depth-broken each none) (WholeRuled.kept each′ d) = absu
 whole-one (WholeRuled.depth-broken each none) (WholeRuled.cover gate below none′) = absurd (none′ (each _ gate))
 whole-one (WholeRuled.depth-broken each none) (WholeRuled.depth-broken each′ none′) = refl
 
-pub whole-answer-once : (inputs nodes : ℕ) (roots leaves sizes outputs labels : List ℕ) (depth : ℕ) (wanted depths : List ℕ) {r r′ : WholeJudged} {w w′ d d′ : List ℕ} →
-    WholeAnswered inputs nodes roots leaves sizes outputs labels depth wanted depths r w d →
-    WholeAnswered inputs nodes roots leaves sizes outputs labels depth wanted depths r′ w′ d′ → (r ≡ r′) × (w ≡ w′) × (d ≡ d′)
-whole-answer-once inputs nodes roots leaves sizes outputs labels depth wanted depths {w = w} {w′} {d} {d′} p q = (
-  whole-one (p .reply) (q .reply),
-  cleared-once nodes wanted w w′ (p .wanted-left) (q .wanted-left),
-  cleared-once nodes depths d d′ (p .depths-left) (q .depths-left),
-)
+pub whole-answer-once : {inputs nodes : ℕ} {luts cuts outputs labels : List ℕ} {depth : ℕ} {wanted depths : List ℕ} {r r′ : WholeJudged}
+    {wanted′ wanted″ depths′ depths″ : List ℕ} → WholeAnswered inputs nodes luts cuts outputs labels depth wanted depths r wanted′ depths′ →
+    WholeAnswered inputs nodes luts cuts outputs labels depth wanted depths r′ wanted″ depths″ → (r ≡ r′) × (wanted′ ≡ wanted″) × (depths′ ≡ depths″)
+whole-answer-once p q =
+    (whole-one (p .reply) (q .reply), p .wanted-clear ∙ sym (q .wanted-clear), p .depths-clear ∙ sym (q .depths-clear))

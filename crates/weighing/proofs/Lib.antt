@@ -1,4 +1,3 @@
-pub mod Scratch
 pub mod Rulings
 pub mod Wanted
 pub mod Deep

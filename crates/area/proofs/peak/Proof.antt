@@ -1,37 +1,50 @@
 -- `peak` meets its contract: so far, the greatest label of the fanins passed.
 use borrow.Author.Needs.{needs}
 use native.Mathlib.Omega.{arith}
-use Prim.Native.Nat.{ℕ, _*_, _-_, _≤_}
+use Prim.Native.Nat.{ℕ, _+_, _*_, _-_, _≤_, _<_}
 use mathlib.Core.Path.{_≡_, refl, ap, _∙_}
 use mathlib.Core.List.{map}
-use lib.ListN.{getD, take, drop}
+use lib.ListN.{length, take, drop}
 use denote.Ref.{now}
 use Rattle.theory.specs.Lists.{greatest}
+use Rattle.storage.specs.Lists.{sizeAt}
+use Rattle.storage.proofs.InLists.{list-member}
 use Rattle.area.specs.Area.{labelIn}
-use Rattle.area.proofs.Parts.{member-of-part, peak-more, peak-in}
+use Rattle.area.proofs.Parts.{peak-more, peak-in}
 use Rattle.area.proofs.peak.Statement.{statement}
 use Rattle.area.proofs.peak.Tie as tie
 
 abbrev Inv-loop : tie.InvT-loop
-Inv-loop fan count gate labels m best₀ i₀ best i = (i ≤ m) × (best .depth ≡ greatest (map (labelIn labels) (take i (drop (6 * gate .id) fan))))
+Inv-loop fanins gate labels m best₀ i₀ best i =
+    (i ≤ m) × (best .depth ≡ greatest (map (labelIn labels) (take i (drop (7 * gate .id + 1) fanins))))
 
 abbrev μ-loop : tie.MeasureT-loop
-μ-loop fan count gate labels m best₀ i₀ best i = m - i
+μ-loop fanins gate labels m best₀ i₀ best i = m - i
 
-fanin-count-requires : tie.Need-fanin-count-requires Inv-loop μ-loop
-fanin-count-requires c κs = (c .before .before .before .pre) .counted
+size-at-requires : tie.Need-size-at-requires Inv-loop μ-loop
+size-at-requires c κs = omega (arith, c .before .before .pre .long)
 
 loop-holds : tie.Need-loop-holds Inv-loop μ-loop
 unfolding greatest
 loop-holds c = (omega arith, refl)
 
-fanin-requires : tie.Need-fanin-requires Inv-loop μ-loop
-fanin-requires c κs = omega (arith, c .before .before .fanin-count .ensures, (c .before .before .before .before .before .before .pre) .fan-long)
+entry-at-requires : tie.Need-entry-at-requires Inv-loop μ-loop
+entry-at-requires c κs =
+    let start = c .before .before .before .before .before in
+    let size-at-here = c .before .before .size-at in
+    let asked = start .pre in
+    (omega (arith, size-at-here .ensures, asked .six), asked .long)
 
 label-of-requires : tie.Need-label-of-requires Inv-loop μ-loop
 label-of-requires c κs =
-    let a = c .before .before .before .before .before .before .before .args in
-    rw (c .fanin .ensures) ((c .before .before .before .before .before .before .before .pre) .known _ (member-of-part (now (a .fan)) (6 * a .gate .id) (getD (now (a .count)) (a .gate .id) 0) ((c .before .before .before .before .before .before .before .pre) .fan-long) (c .before .before .loop .i) (omega (arith, c .before .before .before .fanin-count .ensures))))
+    let after-size-at = c .before .before .before in
+    let start = after-size-at .before .before .before in
+    let l = c .before .before .loop in
+    let size-at-here = after-size-at .size-at in
+    let a = start .args in
+    let p = start .pre in
+    let low : l .i < sizeAt (now (a .fanins)) (a .gate .id) = omega (arith, size-at-here .ensures) in
+    rw (c .entry-at .ensures) (p .known _ (list-member (now (a .fanins)) (a .gate .id) (p .long) (p .six) (l .i) low))
 
 larger-requires : tie.Need-larger-requires Inv-loop μ-loop
 larger-requires c κs = search needs
@@ -44,14 +57,33 @@ loop-less c = omega arith
 
 loop-again : tie.Need-loop-again Inv-loop μ-loop
 loop-again c =
-    let a = c .before .before .before .before .before .before .before .before .before .args in
-    (omega arith, peak-more (now (a .labels)) (now (a .fan)) (6 * a .gate .id) (c .before .before .before .before .loop .i) (omega (arith, c .before .before .before .before .before .fanin-count .ensures, (c .before .before .before .before .before .before .before .before .before .pre) .fan-long)) (c .before .before .before .before .loop .inv .1) (c .before .before .fanin .ensures) (c .before .label-of .ensures) (c .larger .ensures))
+    let at-loop = c .before .before .before .before in
+    let after-size-at = at-loop .before in
+    let start = after-size-at .before .before .before in
+    let label-of-here = c .before .label-of in
+    let entry-at-here = c .before .before .entry-at in
+    let size-at-here = after-size-at .size-at in
+    let asked = start .pre in
+    let a = start .args in
+    let l = at-loop .loop in
+    let inside : 7 * a .gate .id + 1 + l .i < length (now (a .fanins)) =
+    omega (arith, size-at-here .ensures, asked .long, asked .six) in
+    let more = peak-more (now (a .labels)) (now (a .fanins)) (7 * a .gate .id + 1) (l .i) inside (l .inv .1)
+    (entry-at-here .ensures) (label-of-here .ensures) (c .larger .ensures) in
+    (omega arith, more)
 
 returns : tie.Need-returns Inv-loop μ-loop
 returns c =
-    let a = c .before .before .before .before .before .before .args in
-    let all : c .before .loop .i ≡ getD (now (a .count)) (a .gate .id) 0 = omega (arith, c .before .before .fanin-count .ensures) in
-    peak-in (now (a .fan)) (now (a .count)) (a .gate .id) (now (a .labels)) (c .before .loop .inv .1 ∙ ap (λ (i : ℕ). greatest (map (labelIn (now (a .labels))) (take i (drop (6 * a .gate .id) (now (a .fan)))))) all)
+    let start = c .before .before .before .before .before in
+    let size-at-here = c .before .before .size-at in
+    let a = start .args in
+    let l = c .before .loop in
+    let all : l .i ≡ sizeAt (now (a .fanins)) (a .gate .id) = omega (arith, size-at-here .ensures) in
+    peak-in (now (a .fanins)) (a .gate .id) (now (a .labels))
+    (l .inv .1
+    ∙ ap
+    (λ (i : ℕ). greatest (map (labelIn (now (a .labels))) (take i (drop (7 * a .gate .id + 1) (now (a .fanins))))))
+    all)
 
 pub peak-spec : {M : Type 1} → statement M
 peak-spec =
@@ -59,9 +91,9 @@ peak-spec =
     (tie.spec
     Inv-loop
     μ-loop
-    fanin-count-requires
+    size-at-requires
     loop-holds
-    fanin-requires
+    entry-at-requires
     label-of-requires
     larger-requires
     add-i

@@ -1,97 +1,118 @@
 -- `read` meets its contract: short arrays and a refused head leave everything as it was; the rest is `read_body`'s.
 use native.Mathlib.Omega.{arith}
-use mathlib.Core.Path.{_≡_, sym, _∙_}
-use mathlib.Core.Bool.{true}
+use mathlib.Core.Path.{ap, sym, _∙_}
 use lib.ListN.{length}
 use denote.Ref.{now}
 use borrow.Author.Tests.{le-leb, lt-leb}
-use Rattle.drawing.specs.Reading.{arraysOf, enough}
-use Rattle.drawing.proofs.Wholes.{reads-lent, reads-no-head}
+use Rattle.drawing.specs.Limits.{mostNodes, mostOutputs, mostPlaces}
+use Rattle.drawing.specs.declared.TableForm.{TableForm}
+use Rattle.drawing.specs.Fields.{headRuling, headVerdict}
+use Rattle.drawing.specs.Reading.{arraysOf}
+use Rattle.drawing.proofs.SoundFields.{formed-of}
+use Rattle.drawing.proofs.Wholes.{enough-long, reads-short, reads-no-head}
 use borrow.Author.Needs.{needs}
 use Rattle.drawing.proofs.read.Statement.{statement}
 use Rattle.drawing.proofs.read.Tie as tie
 
--- src/lib.rt:110:9
+-- src/lib.rt:135:9
 returns : tie.Need-returns
 returns c =
-    let a = c .before .before .before .before .before .before .args in
-    let s = now (a .table) in
-    let arrays = arraysOf (now (a .fan)) (now (a .count)) (now (a .rows)) (now (a .outputs)) in
-    reads-lent arrays s (simp (lt-leb 1152 (length (now (a .fan))) (omega arith)))
+    let start = c .before .before .before .before .before in
+    let a = start .args in
+    reads-short (arraysOf (now (a .fanins)) (now (a .rows)) (now (a .outputs))) (now (a .table))
+    (simp (lt-leb mostPlaces (length (now (a .fanins))) (omega arith)))
 
--- src/lib.rt:113:9
+-- src/lib.rt:138:9
 returns-2 : tie.Need-returns-2
 returns-2 c =
-    let a = c .before .before .before .before .before .before .before .args in
-    let s = now (a .table) in
-    let arrays = arraysOf (now (a .fan)) (now (a .count)) (now (a .rows)) (now (a .outputs)) in
-    reads-lent arrays s (simp (le-leb 1152 (length (now (a .fan))) (omega arith), lt-leb 192 (length (now (a .count))) (omega arith)))
+    let start = c .before .before .before .before .before .before in
+    let a = start .args in
+    reads-short (arraysOf (now (a .fanins)) (now (a .rows)) (now (a .outputs))) (now (a .table))
+    (simp (
+      le-leb mostPlaces (length (now (a .fanins))) (omega arith),
+      lt-leb mostNodes (length (now (a .rows))) (omega arith),
+    ))
 
--- src/lib.rt:116:9
+-- src/lib.rt:141:9
 returns-3 : tie.Need-returns-3
 returns-3 c =
-    let a = c .before .before .before .before .before .before .before .before .args in
-    let s = now (a .table) in
-    let arrays = arraysOf (now (a .fan)) (now (a .count)) (now (a .rows)) (now (a .outputs)) in
-    reads-lent arrays s (simp (le-leb 1152 (length (now (a .fan))) (omega arith), le-leb 192 (length (now (a .count))) (omega arith), lt-leb 192 (length (now (a .rows))) (omega arith)))
+    let start = c .before .before .before .before .before .before .before in
+    let a = start .args in
+    reads-short (arraysOf (now (a .fanins)) (now (a .rows)) (now (a .outputs))) (now (a .table))
+    (simp (
+      le-leb mostPlaces (length (now (a .fanins))) (omega arith),
+      le-leb mostNodes (length (now (a .rows))) (omega arith),
+      lt-leb mostOutputs (length (now (a .outputs))) (omega arith),
+    ))
 
--- src/lib.rt:119:9
-returns-4 : tie.Need-returns-4
-returns-4 c =
-    let a = c .before .before .before .before .before .before .before .before .before .args in
-    let s = now (a .table) in
-    let arrays = arraysOf (now (a .fan)) (now (a .count)) (now (a .rows)) (now (a .outputs)) in
-    reads-lent arrays s (simp (le-leb 1152 (length (now (a .fan))) (omega arith), le-leb 192 (length (now (a .count))) (omega arith), le-leb 192 (length (now (a .rows))) (omega arith), lt-leb 64 (length (now (a .outputs))) (omega arith)))
+-- src/lib.rt:143:9
+narrow-table-requires : tie.Need-narrow-table-requires
+narrow-table-requires c κs = search needs
 
--- src/lib.rt:121:9
+-- src/lib.rt:144:9
 head-ruling-requires : tie.Need-head-ruling-requires
-head-ruling-requires c κs = search needs
+head-ruling-requires c κs =
+    let start = c .before .before .before .before .before .before .before .before in
+    rw (c .narrow-table .ensures) (formed-of (now (start .args .table)))
 
--- src/lib.rt:123:26
+-- src/lib.rt:146:26
 enum-known-ruled : tie.Need-enum-known-ruled
 enum-known-ruled c = search needs
 
--- src/lib.rt:124:44
+-- src/lib.rt:147:50
 enum-told : tie.Need-enum-told
 enum-told c = search needs
 
--- src/lib.rt:124:27
+-- src/lib.rt:147:27
 read-body-requires : tie.Need-read-body-requires
+unfolding headVerdict
 read-body-requires c κs =
-    let a = c .before .before .before .before .before .before .before .before .before .before .before .before .before .before .before .before .args in
-    let s = now (a .table) in
-    let arrays = arraysOf (now (a .fan)) (now (a .count)) (now (a .rows)) (now (a .outputs)) in
-    let long : enough arrays ≡ true = simp (le-leb 1152 (length (now (a .fan))) (omega arith), le-leb 192 (length (now (a .count))) (omega arith), le-leb 192 (length (now (a .rows))) (omega arith), le-leb 64 (length (now (a .outputs))) (omega arith)) in
-    (sym (c .before .before .before .before .before .before .head-ruling .ensures) ∙ c .before .before .before .before .enum-told .given .1, long)
+    let after-enum-told = c .before .before .before in
+    let after-head-ruling = after-enum-told .before .before in
+    let after-narrow-table = after-head-ruling .before in
+    let start = after-narrow-table .before .before .before .before .before .before .before .before in
+    let a = start .args in
+    let long = enough-long (arraysOf (now (a .fanins)) (now (a .rows)) (now (a .outputs)))
+    (record { fanins = omega arith; rows = omega arith; outputs = omega arith }) in
+    let form = after-narrow-table .narrow-table .ensures in
+    let ruled = ap (λ (f : TableForm). headRuling f (now (a .table))) (sym form)
+    ∙ sym (after-head-ruling .head-ruling .ensures)
+    ∙ after-enum-told .enum-told .given .1 in
+    (form, (ruled, long))
 
--- src/lib.rt:100:1
-returns-5 : tie.Need-returns-5
-returns-5 c =
-    let a = c .before .before .before .before .before .before .before .before .before .before .before .before .before .args in
-    let s = now (a .table) in
-    let arrays = arraysOf (now (a .fan)) (now (a .count)) (now (a .rows)) (now (a .outputs)) in
-    let long : enough arrays ≡ true = simp (le-leb 1152 (length (now (a .fan))) (omega arith), le-leb 192 (length (now (a .count))) (omega arith), le-leb 192 (length (now (a .rows))) (omega arith), le-leb 64 (length (now (a .outputs))) (omega arith)) in
-    reads-no-head arrays s long (sym (c .before .before .before .head-ruling .ensures) ∙ c .before .ruled .given .1)
+-- src/lib.rt:130:1
+returns-4 : tie.Need-returns-4
+unfolding headVerdict
+returns-4 c =
+    let after-head-ruling = c .before .before .before in
+    let after-narrow-table = after-head-ruling .before in
+    let start = after-narrow-table .before .before .before .before .before .before .before .before in
+    let a = start .args in
+    let arrays = arraysOf (now (a .fanins)) (now (a .rows)) (now (a .outputs)) in
+    let long = enough-long arrays (record { fanins = omega arith; rows = omega arith; outputs = omega arith }) in
+    let form = after-narrow-table .narrow-table .ensures in
+    let ruled = ap (λ (f : TableForm). headRuling f (now (a .table))) (sym form)
+    ∙ sym (after-head-ruling .head-ruling .ensures)
+    ∙ c .before .ruled .given .1 in
+    reads-no-head arrays (now (a .table)) long ruled
 
--- src/lib.rt:100:1
+-- src/lib.rt:130:1
 same-length : tie.Need-same-length
 same-length c = search needs
 
--- src/lib.rt:100:1
+-- src/lib.rt:130:1
 same-length-2 : tie.Need-same-length-2
 same-length-2 c = search needs
 
--- src/lib.rt:100:1
+-- src/lib.rt:130:1
 same-length-3 : tie.Need-same-length-3
 same-length-3 c = search needs
 
--- src/lib.rt:100:1
-same-length-4 : tie.Need-same-length-4
-same-length-4 c = search needs
-
--- src/lib.rt:100:1
-returns-6 : tie.Need-returns-6
-returns-6 c = c .before .before .before .before .before .before .before .before .read-body .ensures
+-- src/lib.rt:130:1
+returns-5 : tie.Need-returns-5
+returns-5 c =
+    let after-read-body = c .before .before .before .before .before .before in
+    after-read-body .read-body .ensures
 
 pub read-spec : {M : Type 1} → statement M
 read-spec =
@@ -100,14 +121,13 @@ read-spec =
     returns
     returns-2
     returns-3
-    returns-4
+    narrow-table-requires
     head-ruling-requires
     enum-known-ruled
     enum-told
     read-body-requires
-    returns-5
+    returns-4
     same-length
     same-length-2
     same-length-3
-    same-length-4
-    returns-6)
+    returns-5)

@@ -1,61 +1,87 @@
--- `find` meets its contract: the flow runs on the first entries of each array, one for each node.
+-- `find` meets its contract: what the rounds left, with the scratch cleared.
 use native.Mathlib.Omega.{arith}
 use Prim.Native.Nat.{_-_}
-use mathlib.Core.Path.{sym}
+use mathlib.Core.Path.{sym, _∙_}
 use lib.Seq.{length-take-le}
+use Rattle.flow.proofs.Answered.{gates-span, run-asked, ran-many, ran-full, leaves-asked, answer-paths}
+use Rattle.flow.proofs.Answered.{answer-cut}
 use denote.Ref.{now}
-use Rattle.flow.proofs.Answered.{gates-span, run-asked, answer}
 use borrow.Author.Needs.{needs}
 use Rattle.flow.proofs.find.Statement.{statement}
 use Rattle.flow.proofs.find.Tie as tie
 
 sub-gates : tie.Need-sub-gates
-sub-gates c = gates-span (c .before .before .before .before .before .before .before .before .before .before .before .pre)
+sub-gates c =
+    let start = c .before .before .before .before .before .before in
+    gates-span (start .pre)
 
-slice-aggregate-find-within : tie.Need-slice-aggregate-find-within
-slice-aggregate-find-within c = sym (length-take-le (c .before .before .before .before .before .before .before .before .before .before .before .before .args .nodes - c .before .before .before .before .before .before .before .before .before .before .before .before .args .inputs) (now (c .before .before .before .before .before .before .before .before .before .before .before .before .args .order)) (let long = (c .before .before .before .before .before .before .before .before .before .before .before .before .pre) .order-long in omega arith))
+slice-aggregate-run : tie.Need-slice-aggregate-run
+slice-aggregate-run c =
+    let start = c .before .before .before .before .before .before .before in
+    let a = start .args in
+    let long = start .pre .drawing .order-long in
+    sym (length-take-le (a .numbers .nodes - a .numbers .inputs) (now (a .order)) (omega arith))
 
-slice-aggregate-find-within-2 : tie.Need-slice-aggregate-find-within-2
-slice-aggregate-find-within-2 c = sym (length-take-le (c .before .before .before .before .before .before .before .before .before .before .before .before .before .args .nodes) (now (c .before .before .before .before .before .before .before .before .before .before .before .before .before .args .area)) ((c .before .before .before .before .before .before .before .before .before .before .before .before .before .pre) .area-long))
+slice-aggregate-run-2 : tie.Need-slice-aggregate-run-2
+slice-aggregate-run-2 c =
+    let start = c .before .before .before .before .before .before .before .before in
+    sym (length-take-le (start .args .numbers .nodes) (now (start .args .roles)) (start .pre .roles-long))
 
-slice-aggregate-find-within-3 : tie.Need-slice-aggregate-find-within-3
-slice-aggregate-find-within-3 c = sym (length-take-le (c .before .before .before .before .before .before .before .before .before .before .before .before .before .before .args .nodes) (now (c .before .before .before .before .before .before .before .before .before .before .before .before .before .before .args .ends)) ((c .before .before .before .before .before .before .before .before .before .before .before .before .before .before .pre) .ends-long))
+run-requires : tie.Need-run-requires
+run-requires c κs =
+    let start = c .before .before .before .before .before .before .before .before .before in
+    run-asked (start .pre)
 
-slice-relend-prefix-find-within : tie.Need-slice-relend-prefix-find-within
-slice-relend-prefix-find-within c = search needs
+enum-known-outcome : tie.Need-enum-known-outcome
+enum-known-outcome c = search needs
 
-slice-aggregate-find-within-4 : tie.Need-slice-aggregate-find-within-4
-slice-aggregate-find-within-4 c = sym (length-take-le (c .before .before .before .before .before .before .before .before .before .before .before .before .before .before .before .args .nodes) (now (c .before .before .before .before .before .before .before .before .before .before .before .before .before .before .before .args .next)) ((c .before .before .before .before .before .before .before .before .before .before .before .before .before .before .before .pre) .next-long))
+enum-told : tie.Need-enum-told
+enum-told c = search needs
 
-slice-relend-prefix-find-within-2 : tie.Need-slice-relend-prefix-find-within-2
-slice-relend-prefix-find-within-2 c = search needs
-
-slice-aggregate-find-within-5 : tie.Need-slice-aggregate-find-within-5
-slice-aggregate-find-within-5 c = sym (length-take-le (c .before .before .before .before .before .before .before .before .before .before .before .before .before .before .before .before .args .nodes) (now (c .before .before .before .before .before .before .before .before .before .before .before .before .before .before .before .before .args .prev)) ((c .before .before .before .before .before .before .before .before .before .before .before .before .before .before .before .before .pre) .prev-long))
-
-slice-relend-prefix-find-within-3 : tie.Need-slice-relend-prefix-find-within-3
-slice-relend-prefix-find-within-3 c = search needs
-
-slice-aggregate-find-within-6 : tie.Need-slice-aggregate-find-within-6
-slice-aggregate-find-within-6 c = sym (length-take-le (c .before .before .before .before .before .before .before .before .before .before .before .before .before .before .before .before .before .args .nodes) (now (c .before .before .before .before .before .before .before .before .before .before .before .before .before .before .before .before .before .args .ins)) ((c .before .before .before .before .before .before .before .before .before .before .before .before .before .before .before .before .before .pre) .in-long))
-
-slice-relend-prefix-find-within-4 : tie.Need-slice-relend-prefix-find-within-4
-slice-relend-prefix-find-within-4 c = search needs
-
-slice-aggregate-find-within-7 : tie.Need-slice-aggregate-find-within-7
-slice-aggregate-find-within-7 c = sym (length-take-le (c .before .before .before .before .before .before .before .before .before .before .before .before .before .before .before .before .before .before .args .nodes) (now (c .before .before .before .before .before .before .before .before .before .before .before .before .before .before .before .before .before .before .args .outs)) ((c .before .before .before .before .before .before .before .before .before .before .before .before .before .before .before .before .before .before .pre) .out-long))
-
-slice-relend-prefix-find-within-5 : tie.Need-slice-relend-prefix-find-within-5
-slice-relend-prefix-find-within-5 c = search needs
-
-slice-aggregate-find-within-8 : tie.Need-slice-aggregate-find-within-8
-slice-aggregate-find-within-8 c = sym (length-take-le (c .before .before .before .before .before .before .before .before .before .before .before .before .before .before .before .before .before .before .before .args .nodes) (now (c .before .before .before .before .before .before .before .before .before .before .before .before .before .before .before .before .before .before .before .args .parent)) ((c .before .before .before .before .before .before .before .before .before .before .before .before .before .before .before .before .before .before .before .pre) .parent-long))
-
-find-within-requires : tie.Need-find-within-requires
-find-within-requires c κs = (run-asked (c .before .before .before .before .before .before .before .before .before .before .before .before .before .before .before .before .before .before .before .before .pre), (c .before .before .before .before .before .before .before .before .before .before .before .before .before .before .before .before .before .before .before .before .pre) .leaves-long)
+clear-requires : tie.Need-clear-requires
+clear-requires c κs =
+    let after-run = c .before .before .before .before .before in
+    let start = after-run .before .before .before .before .before .before .before .before .before .before in
+    record {
+      small = start .pre .drawing .small;
+      long = omega (arith, start .pre .links-long, after-run .run .ensures .1 .size);
+      of-five = omega arith;
+    }
 
 same-length : tie.Need-same-length
-same-length c = search needs
+same-length c =
+    let after-run = c .before .before .before .before .before .before .before .before in
+    let at-clear = c .before .before in
+    at-clear .clear .ensures .rest .size ∙ after-run .run .ensures .1 .size
+
+returns : tie.Need-returns
+returns c =
+    let after-enum-told = c .before .before .before .before in
+    let after-run = after-enum-told .before .before .before .before in
+    let start = after-run .before .before .before .before .before .before .before .before .before .before in
+    let at-clear = c .before .before in
+    answer-paths (start .pre) (after-run .run .ensures .1)
+    (ran-many (after-run .run .ensures .0) (after-enum-told .enum-told .given .1)) (at-clear .clear .ensures)
+
+write-leaves-requires : tie.Need-write-leaves-requires
+write-leaves-requires c κs =
+    let after-outcome = c .before .before .before in
+    let after-run = after-outcome .before .before .before .before in
+    let start = after-run .before .before .before .before .before .before .before .before .before .before in
+    let full = ran-full (after-run .run .ensures .0) (after-outcome .outcome .given .1) in
+    leaves-asked (run-asked (start .pre) .field) full (start .pre .drawing .k-small) (start .pre .cut-long)
+
+mul-clear : tie.Need-mul-clear
+mul-clear c =
+    let start = c .before .before .before .before .before .before .before .before .before .before .before .before
+    .before .before .before .before .before .before .before .before .before in
+    omega (arith, start .pre .drawing .small)
+
+clear-requires-2 : tie.Need-clear-requires-2
+clear-requires-2 c κs =
+    let after-run = c .before .before .before .before .before .before .before .before .before .before .before in
+    let start = after-run .before .before .before .before .before .before .before .before .before .before in
+    omega (arith, start .pre .links-long, after-run .run .ensures .1 .size)
 
 same-length-2 : tie.Need-same-length-2
 same-length-2 c = search needs
@@ -63,41 +89,33 @@ same-length-2 c = search needs
 same-length-3 : tie.Need-same-length-3
 same-length-3 c = search needs
 
-same-length-4 : tie.Need-same-length-4
-same-length-4 c = search needs
-
-same-length-5 : tie.Need-same-length-5
-same-length-5 c = search needs
-
-same-length-6 : tie.Need-same-length-6
-same-length-6 c = search needs
-
-returns : tie.Need-returns
-returns c = answer (c .before .before .before .before .before .before .before .before .before .before .before .before .before .before .before .before .before .before .before .before .before .before .before .before .before .before .before .before .before .before .before .before .before .pre) (c .before .before .before .before .before .before .before .before .before .before .before .before .find-within .ensures)
+returns-2 : tie.Need-returns-2
+returns-2 c =
+    let after-write-leaves = c .before .before .before .before .before .before in
+    let after-outcome = after-write-leaves .before .before .before .before in
+    let after-run = after-outcome .before .before .before .before in
+    let start = after-run .before .before .before .before .before .before .before .before .before .before in
+    let at-clear2 = c .before .before in
+    let full = ran-full (after-run .run .ensures .0) (after-outcome .outcome .given .1) in
+    answer-cut (start .pre) (after-run .run .ensures .1) full (at-clear2 .clear2 .ensures)
+    (after-write-leaves .write-leaves .ensures)
 
 pub find-spec : {M : Type 1} → statement M
 find-spec =
     tie.close
     (tie.spec
     sub-gates
-    slice-aggregate-find-within
-    slice-aggregate-find-within-2
-    slice-aggregate-find-within-3
-    slice-relend-prefix-find-within
-    slice-aggregate-find-within-4
-    slice-relend-prefix-find-within-2
-    slice-aggregate-find-within-5
-    slice-relend-prefix-find-within-3
-    slice-aggregate-find-within-6
-    slice-relend-prefix-find-within-4
-    slice-aggregate-find-within-7
-    slice-relend-prefix-find-within-5
-    slice-aggregate-find-within-8
-    find-within-requires
+    slice-aggregate-run
+    slice-aggregate-run-2
+    run-requires
+    enum-known-outcome
+    enum-told
+    clear-requires
     same-length
+    returns
+    write-leaves-requires
+    mul-clear
+    clear-requires-2
     same-length-2
     same-length-3
-    same-length-4
-    same-length-5
-    same-length-6
-    returns)
+    returns-2)

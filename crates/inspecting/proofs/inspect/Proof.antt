@@ -3,7 +3,7 @@ use native.Mathlib.Omega.{arith}
 use mathlib.Core.Path.{subst}
 use denote.Ref.{now}
 use Rattle.taking.specs.Judged.{Says}
-use Rattle.taking.proofs.Judged.{says, table-taken, never-lent}
+use Rattle.taking.proofs.Judged.{says, table-taken, never-short}
 use Rattle.inspecting.proofs.Taken.{says-refused, says-loop, table-laid, says-taken}
 use borrow.Author.Needs.{needs}
 use Rattle.inspecting.proofs.inspect.Statement.{statement}
@@ -23,9 +23,6 @@ slice-aggregate-take-table-4 c = search needs
 
 slice-aggregate-take-table-5 : tie.Need-slice-aggregate-take-table-5
 slice-aggregate-take-table-5 c = search needs
-
-slice-aggregate-take-table-6 : tie.Need-slice-aggregate-take-table-6
-slice-aggregate-take-table-6 c = search needs
 
 take-table-requires : tie.Need-take-table-requires
 take-table-requires c κs = search needs
@@ -54,23 +51,51 @@ slice-aggregate-judge-sheet-3 c = search needs
 slice-aggregate-judge-sheet-4 : tie.Need-slice-aggregate-judge-sheet-4
 slice-aggregate-judge-sheet-4 c = search needs
 
-slice-aggregate-judge-sheet-5 : tie.Need-slice-aggregate-judge-sheet-5
-slice-aggregate-judge-sheet-5 c = search needs
-
 judge-sheet-requires : tie.Need-judge-sheet-requires
-judge-sheet-requires c κs = table-laid (table-taken (c .before .before .before .before .before .before .before .before .before .before .before .before .before .before .take-table .ensures) (omega arith) (omega arith) (omega arith) (omega arith) (omega arith) (omega arith) (c .before .before .before .before .before .before .taken3 .given .1) (c .before .before .before .before .before .before .before .before .before .before .before .before .before .before .take-table .kept .1 .0) (c .before .before .before .before .before .before .before .before .before .before .before .before .before .before .take-table .kept .1 .1 .0) (c .before .before .before .before .before .before .before .before .before .before .before .before .before .before .take-table .kept .1 .1 .1 .0) (c .before .before .before .before .before .before .before .before .before .before .before .before .before .before .take-table .kept .1 .1 .1 .1 .0) (c .before .before .before .before .before .before .before .before .before .before .before .before .before .before .take-table .kept .1 .1 .1 .1 .1 .0))
+judge-sheet-requires c κs =
+    let after-taken3 = c .before .before .before .before .before in
+    let after-take-table = after-taken3 .before .before .before .before .before .before .before in
+    let kept = after-take-table .take-table .kept .1 .1 in
+    let known = table-taken (after-take-table .take-table .ensures) (omega arith) (omega arith) (omega arith)
+    (omega arith) (omega arith) (after-taken3 .taken3 .given .1) (kept .0) (kept .1 .0) (kept .1 .1 .0) in
+    table-laid known
 
 returns : tie.Need-returns
-returns c = says-refused (now (c .before .before .before .before .before .before .before .before .before .before .before .before .before .before .before .before .before .before .args .sheet)) (subst (Says (now (c .before .before .before .before .before .before .before .before .before .before .before .before .before .before .before .before .before .before .args .table))) (c .before .taken .given .1) (says (c .before .before .before .before .before .before .before .before .before .take-table .ensures) (omega arith) (omega arith) (omega arith) (omega arith) (omega arith) (omega arith)))
+returns c =
+    let after-take-table = c .before .before .before .before .before .before .before .before in
+    let start = after-take-table .before .before .before .before .before .before .before .before in
+    let at-taken = c .before in
+    says-refused (now (start .args .sheet))
+    (subst (Says (now (start .args .table))) (at-taken .taken .given .1)
+    (says (after-take-table .take-table .ensures) (omega arith) (omega arith) (omega arith) (omega arith)
+    (omega arith)))
 
 returns-2 : tie.Need-returns-2
-returns-2 c = says-loop (now (c .before .before .before .before .before .before .before .before .before .before .before .before .before .before .before .before .before .before .args .sheet)) (subst (Says (now (c .before .before .before .before .before .before .before .before .before .before .before .before .before .before .before .before .before .before .args .table))) (c .before .taken2 .given .1) (says (c .before .before .before .before .before .before .before .before .before .take-table .ensures) (omega arith) (omega arith) (omega arith) (omega arith) (omega arith) (omega arith)))
+returns-2 c =
+    let after-take-table = c .before .before .before .before .before .before .before .before in
+    let start = after-take-table .before .before .before .before .before .before .before .before in
+    let at-taken2 = c .before in
+    says-loop (now (start .args .sheet))
+    (subst (Says (now (start .args .table))) (at-taken2 .taken2 .given .1)
+    (says (after-take-table .take-table .ensures) (omega arith) (omega arith) (omega arith) (omega arith)
+    (omega arith)))
 
 returns-3 : tie.Need-returns-3
-returns-3 c = absurd (never-lent (c .before .before .before .before .before .before .before .before .take-table .ensures) (omega arith) (omega arith) (omega arith) (omega arith) (omega arith) (omega arith) (c .enum-told .given .1))
+returns-3 c =
+    let after-take-table = c .before .before .before .before .before .before .before in
+    absurd
+    (never-short (after-take-table .take-table .ensures) (omega arith) (omega arith) (omega arith) (omega arith)
+    (omega arith) (c .enum-told .given .1))
 
 returns-4 : tie.Need-returns-4
-returns-4 c = says-taken (now (c .before .before .before .before .before .before .before .before .before .before .before .before .before .before .before .before .before .before .before .before .before .before .before .before .args .sheet)) (table-taken (c .before .before .before .before .before .before .before .before .before .before .before .before .before .before .before .take-table .ensures) (omega arith) (omega arith) (omega arith) (omega arith) (omega arith) (omega arith) (c .before .before .before .before .before .before .before .taken3 .given .1) (c .before .before .before .before .before .before .before .before .before .before .before .before .before .before .before .take-table .kept .1 .0) (c .before .before .before .before .before .before .before .before .before .before .before .before .before .before .before .take-table .kept .1 .1 .0) (c .before .before .before .before .before .before .before .before .before .before .before .before .before .before .before .take-table .kept .1 .1 .1 .0) (c .before .before .before .before .before .before .before .before .before .before .before .before .before .before .before .take-table .kept .1 .1 .1 .1 .0) (c .before .before .before .before .before .before .before .before .before .before .before .before .before .before .before .take-table .kept .1 .1 .1 .1 .1 .0)) (c .judge-sheet .ensures)
+returns-4 c =
+    let after-taken3 = c .before .before .before .before .before .before in
+    let after-take-table = after-taken3 .before .before .before .before .before .before .before in
+    let start = after-take-table .before .before .before .before .before .before .before .before in
+    let kept = after-take-table .take-table .kept .1 .1 in
+    let known = table-taken (after-take-table .take-table .ensures) (omega arith) (omega arith) (omega arith)
+    (omega arith) (omega arith) (after-taken3 .taken3 .given .1) (kept .0) (kept .1 .0) (kept .1 .1 .0) in
+    says-taken (now (start .args .sheet)) known (c .judge-sheet .ensures)
 
 pub inspect-spec : {M : Type 1} → statement M
 inspect-spec =
@@ -81,7 +106,6 @@ inspect-spec =
     slice-aggregate-take-table-3
     slice-aggregate-take-table-4
     slice-aggregate-take-table-5
-    slice-aggregate-take-table-6
     take-table-requires
     enum-known-taken
     enum-known-taken-2
@@ -91,7 +115,6 @@ inspect-spec =
     slice-aggregate-judge-sheet-2
     slice-aggregate-judge-sheet-3
     slice-aggregate-judge-sheet-4
-    slice-aggregate-judge-sheet-5
     judge-sheet-requires
     returns
     returns-2

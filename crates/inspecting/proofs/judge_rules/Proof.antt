@@ -1,13 +1,14 @@
--- `judge_rules` meets its contract.
+-- `judge_rules` meets its contract: the sheet is loaded, and a rule that pass two finds broken comes before those of
+-- passes three and four.
 use native.Mathlib.Omega.{arith}
-use denote.Ref.{now}
-use Rattle.inspecting.proofs.Loaded.{loadable, loaded-asked}
+use Rattle.inspecting.proofs.Loaded.{loadable, judge-asked, last-asked, gates-cut, gates-label, gates-paths}
+use Rattle.inspecting.proofs.Loaded.{gates-kept}
 use borrow.Author.Needs.{needs}
 use Rattle.inspecting.proofs.judge_rules.Statement.{statement}
 use Rattle.inspecting.proofs.judge_rules.Tie as tie
 
-narrow-form-requires : tie.Need-narrow-form-requires
-narrow-form-requires c κs = search needs
+terms-for-requires : tie.Need-terms-for-requires
+terms-for-requires c κs = search needs
 
 slice-aggregate-load-sheet : tie.Need-slice-aggregate-load-sheet
 slice-aggregate-load-sheet c = search needs
@@ -27,66 +28,185 @@ slice-aggregate-load-sheet-5 c = search needs
 slice-aggregate-load-sheet-6 : tie.Need-slice-aggregate-load-sheet-6
 slice-aggregate-load-sheet-6 c = search needs
 
-slice-aggregate-load-sheet-7 : tie.Need-slice-aggregate-load-sheet-7
-slice-aggregate-load-sheet-7 c = search needs
-
-slice-aggregate-load-sheet-8 : tie.Need-slice-aggregate-load-sheet-8
-slice-aggregate-load-sheet-8 c = search needs
-
 load-sheet-requires : tie.Need-load-sheet-requires
-load-sheet-requires c κs = let a = c .before .before .before .before .before .before .before .before .before .before .before .before .before .before .before .args in rw (c .before .before .before .before .before .before .before .before .narrow-form .ensures) (loadable (a .k .leaves) (a .inputs) (a .nodes) (a .number) (now (a .fan)) (now (a .count)) (now (a .rows)) (now (a .outputs)) (now (a .order)) (now (a .sheet)) (c .before .before .before .before .before .before .before .before .before .before .before .before .before .before .before .pre) (λ i. omega (arith, c .before .before .before .before .before .before .before .before .before .shared-slice-known6 .given i)), ((record { labels = omega (arith, (c .before .before .before .before .before .before .before .before .before .before .before .before .before .before .before .pre) .laid .most); leaves = omega (arith, (c .before .before .before .before .before .before .before .before .before .before .before .before .before .before .before .pre) .laid .most); sizes = omega (arith, (c .before .before .before .before .before .before .before .before .before .before .before .before .before .before .before .pre) .laid .most); places = omega (arith, (c .before .before .before .before .before .before .before .before .before .before .before .before .before .before .before .pre) .laid .most) }), (record { roots = omega (arith, (c .before .before .before .before .before .before .before .before .before .before .before .before .before .before .before .pre) .laid .most); leaves = omega (arith, (c .before .before .before .before .before .before .before .before .before .before .before .before .before .before .before .pre) .laid .most); sizes = omega (arith, (c .before .before .before .before .before .before .before .before .before .before .before .before .before .before .before .pre) .laid .most); tables = omega (arith, (c .before .before .before .before .before .before .before .before .before .before .before .before .before .before .before .pre) .laid .most) })))
+load-sheet-requires c κs =
+    let after-terms-for = c .before .before .before .before .before .before in
+    let after-shared-slice-known5 = after-terms-for .before in
+    let start = after-shared-slice-known5 .before .before .before .before .before in
+    let most = start .pre .laid .most in
+    rw (after-terms-for .terms-for .ensures) (
+      loadable (start .pre) (λ i. omega (arith, after-shared-slice-known5 .shared-slice-known5 .given i)),
+      (
+        (record { labels = omega (arith, most); cuts = omega (arith, most); places = omega (arith, most) }),
+        (record { luts = omega (arith, most); cuts = omega (arith, most); tables = omega (arith, most) }),
+      ),
+    )
 
-slice-aggregate-judge-loaded : tie.Need-slice-aggregate-judge-loaded
-slice-aggregate-judge-loaded c = search needs
+slice-aggregate-judge-gates : tie.Need-slice-aggregate-judge-gates
+slice-aggregate-judge-gates c = search needs
 
-slice-aggregate-judge-loaded-2 : tie.Need-slice-aggregate-judge-loaded-2
-slice-aggregate-judge-loaded-2 c = search needs
+slice-aggregate-judge-gates-2 : tie.Need-slice-aggregate-judge-gates-2
+slice-aggregate-judge-gates-2 c = search needs
 
-slice-aggregate-judge-loaded-3 : tie.Need-slice-aggregate-judge-loaded-3
-slice-aggregate-judge-loaded-3 c = search needs
+slice-aggregate-judge-gates-3 : tie.Need-slice-aggregate-judge-gates-3
+slice-aggregate-judge-gates-3 c = search needs
 
-slice-aggregate-judge-loaded-4 : tie.Need-slice-aggregate-judge-loaded-4
-slice-aggregate-judge-loaded-4 c = search needs
+slice-aggregate-judge-gates-4 : tie.Need-slice-aggregate-judge-gates-4
+slice-aggregate-judge-gates-4 c = search needs
 
-slice-aggregate-judge-loaded-5 : tie.Need-slice-aggregate-judge-loaded-5
-slice-aggregate-judge-loaded-5 c = search needs
+judge-gates-requires : tie.Need-judge-gates-requires
+judge-gates-requires c κs =
+    let after-load-sheet = c .before .before .before .before .before .before .before .before .before .before in
+    let after-terms-for = after-load-sheet .before .before .before .before .before .before .before in
+    let after-shared-slice-known5 = after-terms-for .before in
+    let start = after-shared-slice-known5 .before .before .before .before .before in
+    let most = start .pre .laid .most in
+    rw (after-terms-for .terms-for .ensures)
+    (judge-asked (start .pre) (λ i. omega (arith, after-shared-slice-known5 .shared-slice-known5 .given i))
+    (rw (after-terms-for .terms-for .ensures) at (after-load-sheet .load-sheet .ensures))
+    (record { labels = omega (arith, most); cuts = omega (arith, most); places = omega (arith, most) })
+    (record { luts = omega (arith, most); cuts = omega (arith, most); tables = omega (arith, most) })
+    (omega (arith, most)))
 
-slice-aggregate-judge-loaded-6 : tie.Need-slice-aggregate-judge-loaded-6
-slice-aggregate-judge-loaded-6 c = search needs
+enum-known-second : tie.Need-enum-known-second
+enum-known-second c = search needs
 
-slice-aggregate-judge-loaded-7 : tie.Need-slice-aggregate-judge-loaded-7
-slice-aggregate-judge-loaded-7 c = search needs
+enum-known-second-2 : tie.Need-enum-known-second-2
+enum-known-second-2 c = search needs
 
-slice-aggregate-judge-loaded-8 : tie.Need-slice-aggregate-judge-loaded-8
-slice-aggregate-judge-loaded-8 c = search needs
+enum-known-second-3 : tie.Need-enum-known-second-3
+enum-known-second-3 c = search needs
 
-judge-loaded-requires : tie.Need-judge-loaded-requires
-judge-loaded-requires c κs = let a = c .before .before .before .before .before .before .before .before .before .before .before .before .before .before .before .before .before .before .before .before .before .before .before .before .before .before .before .before .before .before .before .before .args in loaded-asked (a .k .leaves) (a .inputs) (a .nodes) (a .number) (now (a .fan)) (now (a .count)) (now (a .rows)) (now (a .outputs)) (now (a .order)) (now (a .sheet)) (c .before .before .before .before .before .before .before .before .before .before .before .before .before .before .before .before .before .before .before .before .before .before .before .before .before .before .before .before .before .before .before .before .pre) (λ i. omega (arith, c .before .before .before .before .before .before .before .before .before .before .before .before .before .before .before .before .before .before .before .before .before .before .before .before .before .before .shared-slice-known6 .given i)) (record { labels = omega (arith, (c .before .before .before .before .before .before .before .before .before .before .before .before .before .before .before .before .before .before .before .before .before .before .before .before .before .before .before .before .before .before .before .before .pre) .laid .most); leaves = omega (arith, (c .before .before .before .before .before .before .before .before .before .before .before .before .before .before .before .before .before .before .before .before .before .before .before .before .before .before .before .before .before .before .before .before .pre) .laid .most); sizes = omega (arith, (c .before .before .before .before .before .before .before .before .before .before .before .before .before .before .before .before .before .before .before .before .before .before .before .before .before .before .before .before .before .before .before .before .pre) .laid .most); places = omega (arith, (c .before .before .before .before .before .before .before .before .before .before .before .before .before .before .before .before .before .before .before .before .before .before .before .before .before .before .before .before .before .before .before .before .pre) .laid .most) }) (record { roots = omega (arith, (c .before .before .before .before .before .before .before .before .before .before .before .before .before .before .before .before .before .before .before .before .before .before .before .before .before .before .before .before .before .before .before .before .pre) .laid .most); leaves = omega (arith, (c .before .before .before .before .before .before .before .before .before .before .before .before .before .before .before .before .before .before .before .before .before .before .before .before .before .before .before .before .before .before .before .before .pre) .laid .most); sizes = omega (arith, (c .before .before .before .before .before .before .before .before .before .before .before .before .before .before .before .before .before .before .before .before .before .before .before .before .before .before .before .before .before .before .before .before .pre) .laid .most); tables = omega (arith, (c .before .before .before .before .before .before .before .before .before .before .before .before .before .before .before .before .before .before .before .before .before .before .before .before .before .before .before .before .before .before .before .before .pre) .laid .most) }) (rw (c .before .before .before .before .before .before .before .before .before .before .before .before .before .before .before .before .before .before .before .before .before .before .before .before .before .narrow-form .ensures) at (c .before .before .before .before .before .before .before .before .before .before .before .before .before .before .before .before .load-sheet .ensures))
+enum-told : tie.Need-enum-told
+enum-told c = search needs
+
+slice-aggregate-judge-last : tie.Need-slice-aggregate-judge-last
+slice-aggregate-judge-last c = search needs
+
+slice-aggregate-judge-last-2 : tie.Need-slice-aggregate-judge-last-2
+slice-aggregate-judge-last-2 c = search needs
+
+slice-aggregate-judge-last-3 : tie.Need-slice-aggregate-judge-last-3
+slice-aggregate-judge-last-3 c = search needs
+
+slice-aggregate-judge-last-4 : tie.Need-slice-aggregate-judge-last-4
+slice-aggregate-judge-last-4 c = search needs
+
+slice-aggregate-judge-last-5 : tie.Need-slice-aggregate-judge-last-5
+slice-aggregate-judge-last-5 c = search needs
+
+judge-last-requires : tie.Need-judge-last-requires
+judge-last-requires c κs =
+    let after-judge-gates = c .before .before .before .before .before .before .before .before in
+    let after-load-sheet = after-judge-gates .before .before .before .before .before .before .before .before .before
+    .before .before in
+    let after-terms-for = after-load-sheet .before .before .before .before .before .before .before in
+    let after-shared-slice-known5 = after-terms-for .before in
+    let start = after-shared-slice-known5 .before .before .before .before .before in
+    let most = start .pre .laid .most in
+    last-asked (start .pre) (λ i. omega (arith, after-shared-slice-known5 .shared-slice-known5 .given i))
+    (rw (after-terms-for .terms-for .ensures) at (after-load-sheet .load-sheet .ensures))
+    (record { labels = omega (arith, most); cuts = omega (arith, most); places = omega (arith, most) })
+    (record { luts = omega (arith, most); cuts = omega (arith, most); tables = omega (arith, most) })
+    (rw (after-terms-for .terms-for .ensures) at (after-judge-gates .judge-gates .ensures)) (omega (arith, most))
 
 returns : tie.Need-returns
-returns c = search needs
+returns c =
+    let after-judge-gates = c .before .before .before .before in
+    let after-load-sheet = after-judge-gates .before .before .before .before .before .before .before .before .before
+    .before .before in
+    let after-terms-for = after-load-sheet .before .before .before .before .before .before .before in
+    let after-shared-slice-known5 = after-terms-for .before in
+    let start = after-shared-slice-known5 .before .before .before .before .before in
+    let at-second = c .before in
+    let most = start .pre .laid .most in
+    gates-cut (start .pre) (λ i. omega (arith, after-shared-slice-known5 .shared-slice-known5 .given i))
+    (rw (after-terms-for .terms-for .ensures) at (after-load-sheet .load-sheet .ensures))
+    (record { labels = omega (arith, most); cuts = omega (arith, most); places = omega (arith, most) })
+    (record { luts = omega (arith, most); cuts = omega (arith, most); tables = omega (arith, most) })
+    (rw (after-terms-for .terms-for .ensures) at (after-judge-gates .judge-gates .ensures))
+    (at-second .second .given .1)
+
+returns-2 : tie.Need-returns-2
+returns-2 c =
+    let after-judge-gates = c .before .before .before .before in
+    let after-load-sheet = after-judge-gates .before .before .before .before .before .before .before .before .before
+    .before .before in
+    let after-terms-for = after-load-sheet .before .before .before .before .before .before .before in
+    let after-shared-slice-known5 = after-terms-for .before in
+    let start = after-shared-slice-known5 .before .before .before .before .before in
+    let at-second2 = c .before in
+    let most = start .pre .laid .most in
+    gates-label (start .pre) (λ i. omega (arith, after-shared-slice-known5 .shared-slice-known5 .given i))
+    (rw (after-terms-for .terms-for .ensures) at (after-load-sheet .load-sheet .ensures))
+    (record { labels = omega (arith, most); cuts = omega (arith, most); places = omega (arith, most) })
+    (record { luts = omega (arith, most); cuts = omega (arith, most); tables = omega (arith, most) })
+    (rw (after-terms-for .terms-for .ensures) at (after-judge-gates .judge-gates .ensures))
+    (at-second2 .second2 .given .1)
+
+returns-3 : tie.Need-returns-3
+returns-3 c =
+    let after-judge-gates = c .before .before .before .before in
+    let after-load-sheet = after-judge-gates .before .before .before .before .before .before .before .before .before
+    .before .before in
+    let after-terms-for = after-load-sheet .before .before .before .before .before .before .before in
+    let after-shared-slice-known5 = after-terms-for .before in
+    let start = after-shared-slice-known5 .before .before .before .before .before in
+    let at-second3 = c .before in
+    let most = start .pre .laid .most in
+    gates-paths (start .pre) (λ i. omega (arith, after-shared-slice-known5 .shared-slice-known5 .given i))
+    (rw (after-terms-for .terms-for .ensures) at (after-load-sheet .load-sheet .ensures))
+    (record { labels = omega (arith, most); cuts = omega (arith, most); places = omega (arith, most) })
+    (record { luts = omega (arith, most); cuts = omega (arith, most); tables = omega (arith, most) })
+    (rw (after-terms-for .terms-for .ensures) at (after-judge-gates .judge-gates .ensures))
+    (at-second3 .second3 .given .1)
+
+returns-4 : tie.Need-returns-4
+returns-4 c =
+    let after-enum-told = c .before .before .before .before .before .before .before in
+    let after-judge-gates = after-enum-told .before .before .before in
+    let after-load-sheet = after-judge-gates .before .before .before .before .before .before .before .before .before
+    .before .before in
+    let after-terms-for = after-load-sheet .before .before .before .before .before .before .before in
+    let after-shared-slice-known5 = after-terms-for .before in
+    let start = after-shared-slice-known5 .before .before .before .before .before in
+    let at-judge-last = c .before in
+    let most = start .pre .laid .most in
+    gates-kept (start .pre) (λ i. omega (arith, after-shared-slice-known5 .shared-slice-known5 .given i))
+    (rw (after-terms-for .terms-for .ensures) at (after-load-sheet .load-sheet .ensures))
+    (record { labels = omega (arith, most); cuts = omega (arith, most); places = omega (arith, most) })
+    (record { luts = omega (arith, most); cuts = omega (arith, most); tables = omega (arith, most) })
+    (rw (after-terms-for .terms-for .ensures) at (after-judge-gates .judge-gates .ensures))
+    (after-enum-told .enum-told .given .1) (at-judge-last .judge-last .ensures)
 
 pub judge-rules-spec : {M : Type 1} → statement M
 judge-rules-spec =
     tie.close
     (tie.spec
-    narrow-form-requires
+    terms-for-requires
     slice-aggregate-load-sheet
     slice-aggregate-load-sheet-2
     slice-aggregate-load-sheet-3
     slice-aggregate-load-sheet-4
     slice-aggregate-load-sheet-5
     slice-aggregate-load-sheet-6
-    slice-aggregate-load-sheet-7
-    slice-aggregate-load-sheet-8
     load-sheet-requires
-    slice-aggregate-judge-loaded
-    slice-aggregate-judge-loaded-2
-    slice-aggregate-judge-loaded-3
-    slice-aggregate-judge-loaded-4
-    slice-aggregate-judge-loaded-5
-    slice-aggregate-judge-loaded-6
-    slice-aggregate-judge-loaded-7
-    slice-aggregate-judge-loaded-8
-    judge-loaded-requires
-    returns)
+    slice-aggregate-judge-gates
+    slice-aggregate-judge-gates-2
+    slice-aggregate-judge-gates-3
+    slice-aggregate-judge-gates-4
+    judge-gates-requires
+    enum-known-second
+    enum-known-second-2
+    enum-known-second-3
+    enum-told
+    slice-aggregate-judge-last
+    slice-aggregate-judge-last-2
+    slice-aggregate-judge-last-3
+    slice-aggregate-judge-last-4
+    slice-aggregate-judge-last-5
+    judge-last-requires
+    returns
+    returns-2
+    returns-3
+    returns-4)

@@ -15,31 +15,43 @@ use Rattle.listing.proofs.list_mapping.Tie as tie
 
 abbrev arrays : tie.After-slice-known → Arrays
 arrays c =
-    let a = c .before .before .before .before .before .before .before .args in
-    arraysOf (now (a .labels)) (now (a .leaves)) (now (a .sizes)) (now (a .roots)) (now (a .tables)) (now (a .outputs))
+    let start = c .before .before .before .before .before .before in
+    let a = start .args in
+    arraysOf (now (a .labels)) (now (a .cuts)) (now (a .luts)) (now (a .tables)) (now (a .outputs))
 
 -- the entries of slices fit their types
 small : (c : tie.After-slice-known) → Small (arrays c)
 small c =
+    let after-shared-slice-known2 = c .before .before .before .before in
+    let after-shared-slice-known = after-shared-slice-known2 .before in
     record {
-      labels = λ i. c .before .before .before .before .before .before .shared-slice-known .given i .fits;
-      leaves = λ i. c .before .before .before .before .before .shared-slice-known2 .given i .fits;
-      outputs = λ i. c .before .shared-slice-known6 .given i .fits;
+      labels = λ i. after-shared-slice-known .shared-slice-known .given i .fits;
+      cuts = λ i. after-shared-slice-known2 .shared-slice-known2 .given i .fits;
+      outputs = λ i. c .before .shared-slice-known5 .given i .fits;
     }
 
 abbrev parts : tie.After-slice-known → List ℕ
 parts c =
-    let a = c .before .before .before .before .before .before .before .args in
+    let start = c .before .before .before .before .before .before in
+    let a = start .args in
+    let n = a .numbers in
     let h = arrays c in
-    headLine (a .k .leaves) (a .inputs) (a .nodes - a .inputs) (a .luts) (a .depth .depth)
-    ++ each (lutText (h .labels) (h .leaves) (h .sizes) (h .tables)) (markedFrom 0 (take (a .nodes) (h .roots)))
-    ++ each (outputText (h .labels)) (take (a .number) (h .outputs))
+    headLine (n .k .leaves) (n .inputs) (n .nodes - n .inputs) (a .many) (a .depth .depth)
+    ++ each (lutText (h .labels) (h .cuts) (h .tables)) (markedFrom 0 (take (n .nodes) (h .luts)))
+    ++ each (outputText (h .labels)) (take (n .roots) (h .outputs))
 
-fits : (c : tie.After-slice-known) → length (parts c) ≤ length (now (c .before .before .before .before .before .before .before .args .text))
+fits :
+    (c : tie.After-slice-known) →
+    length (parts c) ≤ length (now (c .before .before .before .before .before .before .args .text))
 fits c =
-    let a = c .before .before .before .before .before .before .before .args in
-    let p = c .before .before .before .before .before .before .before .pre in
-    let wide = listing-room (arrays c) (small c) (a .k .leaves) (a .inputs) (a .nodes) (a .number) (a .luts) (a .depth .depth) (p .0) (omega arith) (omega arith) (omega arith) in
+    let start = c .before .before .before .before .before .before in
+    let a = start .args in
+    let n = a .numbers in
+    let p = start .pre in
+    let wide =
+    listing-room (arrays c) (small c) (n .k .leaves) (n .inputs) (n .nodes) (n .roots) (a .many) (a .depth .depth)
+    (p .0) (omega (arith, start .good .0)) (omega (arith, start .good .1 .1 .1 .1 .1 .1 .0))
+    (omega (arith, start .good .1 .1 .1 .1 .1 .1 .1 .0)) in
     omega (arith, wide, p .1 .1)
 
 sub-put-head : tie.Need-sub-put-head
@@ -50,21 +62,27 @@ put-head-requires c κs = omega (arith, simp length-append at (fits (c .before))
 
 put-luts-requires : tie.Need-put-luts-requires
 put-luts-requires c κs =
-    let held = c .before .before .before .before .before .before .before .before .before .before .before .before .pre .0 in (
-      (held .ids, held .roots-long),
+    let known = c .before .before .before .before .before in
+    let start = known .before .before .before .before .before .before in
+    let held = start .pre .0 in (
+      (held .small, held .luts-long),
       (
-        λ v h root. record { label = omega arith; cut = omega arith; size = omega arith; six = held .six v h root; table = omega arith },
-        omega (arith, simp length-append at (fits (c .before .before .before .before .before))),
+        λ v h root. record { label = omega arith; cut = omega arith; six = held .six v h root; table = omega arith },
+        omega (arith, simp length-append at (fits known)),
       ),
     )
 
 put-outputs-requires : tie.Need-put-outputs-requires
 put-outputs-requires c κs =
-    let held = c .before .before .before .before .before .before .before .before .before .before .before .before .before .before .before .before .pre .0 in (
+    let held = c .before .before .before .before .before .before .before .before .before .before .before .before
+    .before .before .before .pre .0 in (
       held .outputs-long,
       (
         λ i h. omega (arith, held .output-nodes i h),
-        omega (arith, simp length-append at (fits (c .before .before .before .before .before .before .before .before .before))),
+        omega (
+          arith,
+          simp length-append at (fits (c .before .before .before .before .before .before .before .before .before)),
+        ),
       ),
     )
 
@@ -73,9 +91,18 @@ same-length c = search needs
 
 returns : tie.Need-returns
 returns c =
-    let a = c .before .before .before .before .before .before .before .before .before .before .before .before .before .before .before .before .before .before .before .args in
-    rw (listing-parts (a .k .leaves) (a .inputs) (a .nodes) (arrays (c .before .before .before .before .before .before .before .before .before .before .before .before)) (a .number) (a .depth .depth) (c .before .before .before .before .before .before .before .before .before .before .before .before .before .before .before .before .before .before .before .pre .1 .0))
-    (put-wrote (fits (c .before .before .before .before .before .before .before .before .before .before .before .before)) (put-then (put-then (c .before .before .before .before .before .before .before .before .before .before .put-head .ensures) (c .before .before .before .before .before .before .put-luts .ensures)) (c .before .before .put-outputs .ensures)))
+    let after-put-luts = c .before .before .before .before .before .before in
+    let after-put-head = after-put-luts .before .before .before .before in
+    let known = after-put-head .before .before in
+    let start = known .before .before .before .before .before .before in
+    let a = start .args in
+    let n = a .numbers in
+    rw
+    (listing-parts (n .k .leaves) (n .inputs) (n .nodes) (arrays known) (n .roots) (a .depth .depth)
+    (start .pre .1 .0))
+    (put-wrote (fits known)
+    (put-then (put-then (after-put-head .put-head .ensures) (after-put-luts .put-luts .ensures))
+    (c .before .before .put-outputs .ensures)))
 
 pub list-mapping-spec : {M : Type 1} → statement M
 list-mapping-spec =

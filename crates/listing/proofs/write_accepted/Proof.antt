@@ -16,11 +16,15 @@ cast-put-named c = search needs
 
 put-named-requires : tie.Need-put-named-requires
 unfolding acceptedLine
-put-named-requires c κs = omega (arith, simp length-append at (accepted-room (c .before .before .before .before .args .depth .depth) (omega arith)))
+put-named-requires c κs =
+    let start = c .before .before .before .before in
+    omega (arith, simp length-append at (accepted-room (start .args .depth .depth) (omega arith)))
 
 end-line-requires : tie.Need-end-line-requires
 unfolding acceptedLine
-end-line-requires c κs = omega (arith, simp length-append at (accepted-room (c .before .before .before .before .before .before .before .before .args .depth .depth) (omega arith)))
+end-line-requires c κs =
+    let start = c .before .before .before .before .before .before .before .before in
+    omega (arith, simp length-append at (accepted-room (start .args .depth .depth) (omega arith)))
 
 same-length : tie.Need-same-length
 same-length c = search needs
@@ -28,8 +32,10 @@ same-length c = search needs
 returns : tie.Need-returns
 unfolding acceptedLine
 returns c =
-    let fits = accepted-room (c .before .before .before .before .before .before .before .before .before .before .before .args .depth .depth) (omega arith) in
-    put-wrote (omega arith) (put-then (c .before .before .before .before .before .before .put-named .ensures) (c .before .before .end-line .ensures))
+    let after-put-named = c .before .before .before .before .before .before in
+    let start = after-put-named .before .before .before .before .before in
+    let fits = accepted-room (start .args .depth .depth) (omega arith) in
+    put-wrote (omega arith) (put-then (after-put-named .put-named .ensures) (c .before .before .end-line .ensures))
 
 pub write-accepted-spec : {M : Type 1} → statement M
 write-accepted-spec =

@@ -1,8 +1,12 @@
 -- `map` meets its contract: what is said of the table comes first, and a table taken is mapped.
-use native.Mathlib.Omega.{arith}
-use denote.Ref.{now}
-use Rattle.mapping.proofs.Mapped.{table-taken, taken-asked, maps-taken, maps-refused, maps-loop, never-lent}
 use borrow.Author.Needs.{needs}
+use native.Mathlib.Omega.{arith}
+use mathlib.Core.Path.{refl, subst}
+use denote.Ref.{now}
+use Rattle.taking.specs.Judged.{Says}
+use Rattle.taking.proofs.Judged.{says, table-taken, never-short}
+use Rattle.mapping.specs.Maps.{Maps}
+use Rattle.mapping.proofs.Mapped.{taken-asked, maps-taken}
 use Rattle.mapping.proofs.map.Statement.{statement}
 use Rattle.mapping.proofs.map.Tie as tie
 
@@ -20,9 +24,6 @@ slice-aggregate-take-table-4 c = search needs
 
 slice-aggregate-take-table-5 : tie.Need-slice-aggregate-take-table-5
 slice-aggregate-take-table-5 c = search needs
-
-slice-aggregate-take-table-6 : tie.Need-slice-aggregate-take-table-6
-slice-aggregate-take-table-6 c = search needs
 
 take-table-requires : tie.Need-take-table-requires
 take-table-requires c κs = search needs
@@ -42,11 +43,14 @@ slice-aggregate-map-taken-3 c = search needs
 slice-aggregate-map-taken-4 : tie.Need-slice-aggregate-map-taken-4
 slice-aggregate-map-taken-4 c = search needs
 
-slice-aggregate-map-taken-5 : tie.Need-slice-aggregate-map-taken-5
-slice-aggregate-map-taken-5 c = search needs
-
 map-taken-requires : tie.Need-map-taken-requires
-map-taken-requires c κs = let known = (table-taken (c .before .before .before .before .before .before .before .before .before .before .before .before .before .before .before .take-table .ensures) (omega arith) (omega arith) (omega arith) (omega arith) (omega arith) (omega arith) (c .before .before .before .before .before .before .before .taken .given .1) (c .before .before .before .before .before .before .before .before .before .before .before .before .before .before .before .take-table .kept .1 .0) (c .before .before .before .before .before .before .before .before .before .before .before .before .before .before .before .take-table .kept .1 .1 .0) (c .before .before .before .before .before .before .before .before .before .before .before .before .before .before .before .take-table .kept .1 .1 .1 .0) (c .before .before .before .before .before .before .before .before .before .before .before .before .before .before .before .take-table .kept .1 .1 .1 .1 .0) (c .before .before .before .before .before .before .before .before .before .before .before .before .before .before .before .take-table .kept .1 .1 .1 .1 .1 .0)) in taken-asked (known .ready) (known .head-is) (known .count-is)
+map-taken-requires c κs =
+    let after-taken = c .before .before .before .before .before .before in
+    let after-take-table = after-taken .before .before .before .before .before .before .before in
+    let kept = after-take-table .take-table .kept .1 .1 in
+    let known = table-taken (after-take-table .take-table .ensures) (omega arith) (omega arith) (omega arith)
+    (omega arith) (omega arith) (after-taken .taken .given .1) (kept .0) (kept .1 .0) (kept .1 .1 .0) in
+    taken-asked (known .ready) (known .numbers-are)
 
 enum-known-taken-2 : tie.Need-enum-known-taken-2
 enum-known-taken-2 c = search needs
@@ -61,40 +65,47 @@ same-length : tie.Need-same-length
 same-length c = search needs
 
 returns : tie.Need-returns
-returns c = let known = (table-taken (c .before .before .before .before .before .before .before .before .before .before .before .before .before .before .before .before .before .before .take-table .ensures) (omega arith) (omega arith) (omega arith) (omega arith) (omega arith) (omega arith) (c .before .before .before .before .before .before .before .before .before .before .taken .given .1) (c .before .before .before .before .before .before .before .before .before .before .before .before .before .before .before .before .before .before .take-table .kept .1 .0) (c .before .before .before .before .before .before .before .before .before .before .before .before .before .before .before .before .before .before .take-table .kept .1 .1 .0) (c .before .before .before .before .before .before .before .before .before .before .before .before .before .before .before .before .before .before .take-table .kept .1 .1 .1 .0) (c .before .before .before .before .before .before .before .before .before .before .before .before .before .before .before .before .before .before .take-table .kept .1 .1 .1 .1 .0) (c .before .before .before .before .before .before .before .before .before .before .before .before .before .before .before .before .before .before .take-table .kept .1 .1 .1 .1 .1 .0)) in maps-taken (known .ready) (known .head-is) (known .count-is) (c .before .before .map-taken .ensures)
+returns c =
+    let after-taken = c .before .before .before .before .before .before .before .before .before in
+    let after-take-table = after-taken .before .before .before .before .before .before .before in
+    let kept = after-take-table .take-table .kept .1 .1 in
+    let known = table-taken (after-take-table .take-table .ensures) (omega arith) (omega arith) (omega arith)
+    (omega arith) (omega arith) (after-taken .taken .given .1) (kept .0) (kept .1 .0) (kept .1 .1 .0) in
+    maps-taken (known .ready) (known .numbers-are) (c .before .before .map-taken .ensures)
 
 returns-2 : tie.Need-returns-2
-returns-2 c = maps-refused (c .before .before .before .before .before .before .before .before .before .take-table .ensures) (omega arith) (omega arith) (omega arith) (omega arith) (omega arith) (omega arith) (now (c .before .before .before .before .before .before .before .before .before .before .before .before .before .before .before .before .before .before .args .sheet)) (c .before .taken2 .given .1)
+returns-2 c =
+    let after-take-table = c .before .before .before .before .before .before .before .before in
+    let start = after-take-table .before .before .before .before .before .before .before .before in
+    Maps.refused
+    (subst (Says (now (start .args .table))) (c .before .taken2 .given .1)
+    (says (after-take-table .take-table .ensures) (omega arith) (omega arith) (omega arith) (omega arith)
+    (omega arith)))
+    refl refl
 
 returns-3 : tie.Need-returns-3
-returns-3 c = maps-loop (c .before .before .before .before .before .before .before .before .before .take-table .ensures) (omega arith) (omega arith) (omega arith) (omega arith) (omega arith) (omega arith) (now (c .before .before .before .before .before .before .before .before .before .before .before .before .before .before .before .before .before .before .args .sheet)) (c .before .taken3 .given .1)
+returns-3 c =
+    let after-take-table = c .before .before .before .before .before .before .before .before in
+    let start = after-take-table .before .before .before .before .before .before .before .before in
+    Maps.loop
+    (subst (Says (now (start .args .table))) (c .before .taken3 .given .1)
+    (says (after-take-table .take-table .ensures) (omega arith) (omega arith) (omega arith) (omega arith)
+    (omega arith)))
+    refl refl
 
 returns-4 : tie.Need-returns-4
-returns-4 c = absurd (never-lent (c .before .before .before .before .before .before .before .before .take-table .ensures) (omega arith) (omega arith) (omega arith) (omega arith) (omega arith) (omega arith) (c .enum-told .given .1))
+returns-4 c =
+    let after-take-table = c .before .before .before .before .before .before .before in
+    absurd
+    (never-short (after-take-table .take-table .ensures) (omega arith) (omega arith) (omega arith) (omega arith)
+    (omega arith) (c .enum-told .given .1))
 
 pub map-spec : {M : Type 1} → statement M
 map-spec =
     tie.close
     (tie.spec
-    slice-aggregate-take-table
-    slice-aggregate-take-table-2
-    slice-aggregate-take-table-3
-    slice-aggregate-take-table-4
-    slice-aggregate-take-table-5
-    slice-aggregate-take-table-6
-    take-table-requires
-    enum-known-taken
-    slice-aggregate-map-taken
-    slice-aggregate-map-taken-2
-    slice-aggregate-map-taken-3
-    slice-aggregate-map-taken-4
-    slice-aggregate-map-taken-5
-    map-taken-requires
-    enum-known-taken-2
-    enum-known-taken-3
-    enum-told
-    same-length
-    returns
-    returns-2
-    returns-3
-    returns-4)
+    slice-aggregate-take-table slice-aggregate-take-table-2 slice-aggregate-take-table-3
+    slice-aggregate-take-table-4 slice-aggregate-take-table-5 take-table-requires enum-known-taken
+    slice-aggregate-map-taken slice-aggregate-map-taken-2 slice-aggregate-map-taken-3
+    slice-aggregate-map-taken-4 map-taken-requires enum-known-taken-2 enum-known-taken-3 enum-told same-length
+    returns returns-2 returns-3 returns-4)

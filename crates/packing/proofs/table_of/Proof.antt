@@ -1,4 +1,5 @@
--- `table_of` meets its contract: a root's cone has its table from the gate's six places.
+-- `table_of` meets its contract: a root's cone has its table from the gate's own leaves.
+use native.Mathlib.Omega.{arith}
 use denote.Ref.{now}
 use Rattle.packing.proofs.TablesStored.{no-table, cone-asked, cone-answered}
 use borrow.Author.Needs.{needs}
@@ -13,14 +14,16 @@ shared-slice-read-if1 c = search needs
 
 returns : tie.Need-returns
 returns c =
-    let a = c .before .before .before .before .before .before .before .before .before .before .before .args in
-    no-table (a .inputs) (a .nodes) (now (a .fan)) (now (a .count)) (now (a .rows)) (now (a .leaves)) (now (a .sizes)) (now (a .roots)) (a .gate .id) (now (a .values)) (c .if1 .taken)
+    let start = c .before .before .before .before .before .before .before .before .before in
+    let a = start .args in
+    no-table (a .numbers .inputs) (a .numbers .nodes) (now (a .fanins)) (now (a .rows)) (now (a .cuts))
+    (now (a .luts)) (a .gate .id) (now (a .words)) (c .if1 .taken)
 
 mul-at : tie.Need-mul-at
 mul-at c = search needs
 
-shared-slice-read-t16 : tie.Need-shared-slice-read-t16
-shared-slice-read-t16 c = search needs
+add-at : tie.Need-add-at
+add-at c = search needs
 
 mul-cone-table : tie.Need-mul-cone-table
 mul-cone-table c = search needs
@@ -34,14 +37,34 @@ part-cone-table-start c = search needs
 part-cone-table-end : tie.Need-part-cone-table-end
 part-cone-table-end c = search needs
 
+cut-size-requires : tie.Need-cut-size-requires
+cut-size-requires c κs =
+    let start = c .before .before .before .before .before .before .before .before .before .before in
+    let args = start .args in
+    let p = start .pre in
+    (omega (arith, p .low, p .arrays .cuts-long), p .arrays .six (args .gate .id) (p .low))
+
 cone-table-requires : tie.Need-cone-table-requires
-cone-table-requires c κs = cone-asked (c .before .before .before .before .before .before .before .before .before .before .before .before .before .before .pre) (c .before .before .before .if1 .left)
+cone-table-requires c κs =
+    let else1 = c .before .before .before in
+    let start = else1 .before .before .before .before .before .before .before .before .before in
+    let if1 = else1 .if1 in
+    let pre = start .pre in
+    cone-asked pre (if1 .left) (c .before .cut-size .ensures)
 
 same-length : tie.Need-same-length
 same-length c = search needs
 
 returns-2 : tie.Need-returns-2
-returns-2 c = cone-answered (c .before .before .before .before .before .before .before .before .before .before .before .before .before .before .before .before .before .pre) (c .before .before .before .before .before .before .if1 .left) (c .before .before .cone-table .ensures)
+returns-2 c =
+    let after-cut-size = c .before .before .before .before in
+    let else1 = after-cut-size .before .before in
+    let start = else1 .before .before .before .before .before .before .before .before .before in
+    let cone-table = c .before .before .cone-table in
+    let cut-size = after-cut-size .cut-size in
+    let if1 = else1 .if1 in
+    let pre = start .pre in
+    cone-answered pre (if1 .left) (cut-size .ensures) (cone-table .ensures)
 
 pub table-of-spec : {M : Type 1} → statement M
 table-of-spec =
@@ -51,11 +74,12 @@ table-of-spec =
     shared-slice-read-if1
     returns
     mul-at
-    shared-slice-read-t16
+    add-at
     mul-cone-table
     sub-cone-table
     part-cone-table-start
     part-cone-table-end
+    cut-size-requires
     cone-table-requires
     same-length
     returns-2)

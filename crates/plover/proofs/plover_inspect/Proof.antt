@@ -10,10 +10,25 @@ inspect-requires : tie.Need-inspect-requires
 inspect-requires c κs = search needs
 
 inspect-word-requires : tie.Need-inspect-word-requires
-inspect-word-requires c κs = inspect-place (now (c .before .before .before .args .table)) (now (c .before .before .before .args .sheet)) (λ i. omega (arith, c .before .shared-slice-known2 .given i)) _ (c .inspect .ensures)
+inspect-word-requires c κs =
+    let start = c .before .before .before in
+    let at-shared-slice-known2 = c .before in
+    inspect-place (now (start .args .table)) (now (start .args .sheet))
+    (λ i. omega (arith, at-shared-slice-known2 .shared-slice-known2 .given i)) _ (c .inspect .ensures)
 
 returns : tie.Need-returns
-returns c = record { reply = c .before .inspect .result; inspects = c .before .inspect .ensures; fits = inspect-place (now (c .before .before .before .before .args .table)) (now (c .before .before .before .before .args .sheet)) (λ i. omega (arith, c .before .before .shared-slice-known2 .given i)) _ (c .before .inspect .ensures); word = c .inspect-word .ensures }
+returns c =
+    let start = c .before .before .before .before in
+    let at-inspect = c .before in
+    let at-shared-slice-known2 = at-inspect .before in
+    record {
+      reply = at-inspect .inspect .result;
+      inspects = at-inspect .inspect .ensures;
+      fits =
+          inspect-place (now (start .args .table)) (now (start .args .sheet))
+          (λ i. omega (arith, at-shared-slice-known2 .shared-slice-known2 .given i)) _ (at-inspect .inspect .ensures);
+      word = c .inspect-word .ensures;
+    }
 
 pub plover-inspect-spec : {M : Type 1} → statement M
 plover-inspect-spec = tie.close (tie.spec inspect-requires inspect-word-requires returns)

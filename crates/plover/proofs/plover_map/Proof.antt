@@ -9,13 +9,24 @@ map-requires : tie.Need-map-requires
 map-requires c κs = search needs
 
 map-word-requires : tie.Need-map-word-requires
-map-word-requires c κs = map-place (now (c .before .before .before .before .before .before .args .table)) (now (c .before .before .before .before .before .before .args .sheet)) _ _ (c .before .before .map .ensures)
+map-word-requires c κs =
+    let start = c .before .before .before .before .before .before in
+    let at-map = c .before .before in
+    map-place (now (start .args .table)) (now (start .args .sheet)) _ _ (at-map .map .ensures)
 
 same-length : tie.Need-same-length
 same-length c = search needs
 
 returns : tie.Need-returns
-returns c = record { reply = c .before .before .before .map .result; maps = c .before .before .before .map .ensures; fits = map-place (now (c .before .before .before .before .before .before .before .args .table)) (now (c .before .before .before .before .before .before .before .args .sheet)) _ _ (c .before .before .before .map .ensures); word = c .map-word .ensures }
+returns c =
+    let after-map = c .before .before .before in
+    let start = after-map .before .before .before .before in
+    record {
+      reply = after-map .map .result;
+      maps = after-map .map .ensures;
+      fits = map-place (now (start .args .table)) (now (start .args .sheet)) _ _ (after-map .map .ensures);
+      word = c .map-word .ensures;
+    }
 
 pub plover-map-spec : {M : Type 1} → statement M
 plover-map-spec = tie.close (tie.spec map-requires map-word-requires same-length returns)

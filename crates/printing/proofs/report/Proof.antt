@@ -20,7 +20,11 @@ same-length : tie.Need-same-length
 same-length c = search needs
 
 returns-2 : tie.Need-returns-2
-returns-2 c = front (reported (c .before .before .before .before .before .if1 .left) (c .before .before .before .before .inspect .ensures) (c .before .before .write-reply .ensures))
+returns-2 c =
+    let after-inspect = c .before .before .before .before in
+    let else1 = after-inspect .before in
+    let at-write-reply = c .before .before in
+    front (reported (else1 .if1 .left) (after-inspect .inspect .ensures) (at-write-reply .write-reply .ensures))
 
 pub report-spec : {M : Type 1} → statement M
 report-spec =

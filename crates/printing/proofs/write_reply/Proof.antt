@@ -80,61 +80,99 @@ same-length : tie.Need-same-length
 same-length c = search needs
 
 returns : tie.Need-returns
-returns c = reply-wrote (c .before .before .before .before .before .reply .given .1) (c .before .before .write-accepted .ensures)
+returns c =
+    let after-reply = c .before .before .before .before .before in
+    let at-write-accepted = c .before .before in
+    reply-wrote (after-reply .reply .given .1) (at-write-accepted .write-accepted .ensures)
 
 same-length-2 : tie.Need-same-length-2
 same-length-2 c = search needs
 
 returns-2 : tie.Need-returns-2
-returns-2 c = reply-wrote (c .before .before .before .before .before .before .before .reply2 .given .1) (refused-as (c .before .before .before .before .before .number-of .ensures) (c .before .before .before .before .place-of .ensures) (c .before .before .write-refused .ensures))
+returns-2 c =
+    let after-place-of = c .before .before .before .before in
+    let after-number-of = after-place-of .before in
+    let after-reply2 = after-number-of .before .before in
+    let at-write-refused = c .before .before in
+    reply-wrote (after-reply2 .reply2 .given .1)
+    (refused-as (after-number-of .number-of .ensures) (after-place-of .place-of .ensures)
+    (at-write-refused .write-refused .ensures))
 
 same-length-3 : tie.Need-same-length-3
 same-length-3 c = search needs
 
 returns-3 : tie.Need-returns-3
-returns-3 c = reply-wrote (c .before .before .before .before .before .reply3 .given .1) (c .before .before .write-gate .ensures)
+returns-3 c =
+    let after-reply3 = c .before .before .before .before .before in
+    let at-write-gate = c .before .before in
+    reply-wrote (after-reply3 .reply3 .given .1) (at-write-gate .write-gate .ensures)
 
 same-length-4 : tie.Need-same-length-4
 same-length-4 c = search needs
 
 returns-4 : tie.Need-returns-4
-returns-4 c = reply-wrote (c .before .before .before .before .before .before .before .reply4 .given .1) (refused-as (c .before .before .before .before .before .number-of-fault .ensures) (c .before .before .before .before .place-of-fault .ensures) (c .before .before .write-refused2 .ensures))
+returns-4 c =
+    let after-place-of-fault = c .before .before .before .before in
+    let after-number-of-fault = after-place-of-fault .before in
+    let after-reply4 = after-number-of-fault .before .before in
+    let at-write-refused2 = c .before .before in
+    reply-wrote (after-reply4 .reply4 .given .1)
+    (refused-as (after-number-of-fault .number-of-fault .ensures) (after-place-of-fault .place-of-fault .ensures)
+    (at-write-refused2 .write-refused2 .ensures))
 
 same-length-5 : tie.Need-same-length-5
 same-length-5 c = search needs
 
 returns-5 : tie.Need-returns-5
-returns-5 c = reply-wrote (c .before .before .before .before .before .reply5 .given .1) (c .before .before .write-gate2 .ensures)
+returns-5 c =
+    let after-reply5 = c .before .before .before .before .before in
+    let at-write-gate2 = c .before .before in
+    reply-wrote (after-reply5 .reply5 .given .1) (at-write-gate2 .write-gate2 .ensures)
 
 same-length-6 : tie.Need-same-length-6
 same-length-6 c = search needs
 
 returns-6 : tie.Need-returns-6
-returns-6 c = reply-wrote (c .before .before .before .before .before .reply6 .given .1) (c .before .before .write-gate3 .ensures)
+returns-6 c =
+    let after-reply6 = c .before .before .before .before .before in
+    let at-write-gate3 = c .before .before in
+    reply-wrote (after-reply6 .reply6 .given .1) (at-write-gate3 .write-gate3 .ensures)
 
 same-length-7 : tie.Need-same-length-7
 same-length-7 c = search needs
 
 returns-7 : tie.Need-returns-7
-returns-7 c = reply-wrote (c .before .before .before .before .before .reply7 .given .1) (c .before .before .write-gate4 .ensures)
+returns-7 c =
+    let after-reply7 = c .before .before .before .before .before in
+    let at-write-gate4 = c .before .before in
+    reply-wrote (after-reply7 .reply7 .given .1) (at-write-gate4 .write-gate4 .ensures)
 
 same-length-8 : tie.Need-same-length-8
 same-length-8 c = search needs
 
 returns-8 : tie.Need-returns-8
-returns-8 c = reply-wrote (c .before .before .before .before .before .reply8 .given .1) (c .before .before .write-gate5 .ensures)
+returns-8 c =
+    let after-reply8 = c .before .before .before .before .before in
+    let at-write-gate5 = c .before .before in
+    reply-wrote (after-reply8 .reply8 .given .1) (at-write-gate5 .write-gate5 .ensures)
 
 same-length-9 : tie.Need-same-length-9
 same-length-9 c = search needs
 
 returns-9 : tie.Need-returns-9
-returns-9 c = reply-wrote (c .before .before .before .before .before .reply9 .given .1) (c .before .before .write-gate6 .ensures)
+returns-9 c =
+    let after-reply9 = c .before .before .before .before .before in
+    let at-write-gate6 = c .before .before in
+    reply-wrote (after-reply9 .reply9 .given .1) (at-write-gate6 .write-gate6 .ensures)
 
 same-length-10 : tie.Need-same-length-10
 same-length-10 c = search needs
 
 returns-10 : tie.Need-returns-10
-returns-10 c = reply-wrote (c .before .before .before .before .enum-told .given .1) (c .before .before .write-refused3 .ensures)
+returns-10 c =
+    let after-enum-told = c .before .before .before .before in
+    let at-write-refused3 = c .before .before in
+    reply-wrote (after-enum-told .enum-told .given .1) (at-write-refused3 .write-refused3 .ensures)
 
 pub write-reply-spec : {M : Type 1} → statement M
 write-reply-spec =

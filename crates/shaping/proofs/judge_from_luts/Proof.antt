@@ -8,10 +8,14 @@ use Rattle.shaping.proofs.judge_from_luts.Statement.{statement}
 use Rattle.shaping.proofs.judge_from_luts.Tie as tie
 
 add-small-at : tie.Need-add-small-at
-add-small-at c = omega (arith, head-inside (dueOf (c .before .args .terms)) (now (c .before .args .sheet)) (c .before .pre .1 .0))
+add-small-at c =
+    omega (arith, head-inside (dueOf (c .before .args .terms)) (now (c .before .args .sheet)) (c .before .pre .1 .0))
 
 small-at-requires : tie.Need-small-at-requires
-small-at-requires c κs = (c .before .pre .0, omega (arith, head-inside (dueOf (c .before .args .terms)) (now (c .before .args .sheet)) (c .before .pre .1 .0)))
+small-at-requires c κs = (
+  c .before .pre .0,
+  omega (arith, head-inside (dueOf (c .before .args .terms)) (now (c .before .args .sheet)) (c .before .pre .1 .0)),
+)
 
 judge-luts-requires : tie.Need-judge-luts-requires
 judge-luts-requires c κs = search needs
@@ -23,13 +27,30 @@ enum-known-luts-2 : tie.Need-enum-known-luts-2
 enum-known-luts-2 c = search needs
 
 returns : tie.Need-returns
-returns c = luts-extra (dueOf (c .before .before .before .before .before .before .before .args .terms)) (now (c .before .before .before .before .before .before .before .args .sheet)) (c .before .before .before .before .before .before .before .args .at) (c .before .before .before .before .before .small-at .ensures) (c .before .before .before .before .judge-luts .ensures) (c .before .before .luts2 .given .1) (omega arith)
+returns c =
+    let after-judge-luts = c .before .before .before .before in
+    let after-small-at = after-judge-luts .before in
+    let start = after-small-at .before .before in
+    luts-extra (dueOf (start .args .terms)) (now (start .args .sheet)) (start .args .at)
+    (after-small-at .small-at .ensures) (after-judge-luts .judge-luts .ensures) (c .before .before .luts2 .given .1)
+    (omega arith)
 
 returns-2 : tie.Need-returns-2
-returns-2 c = luts-faulty (dueOf (c .before .before .before .before .before .before .args .terms)) (now (c .before .before .before .before .before .before .args .sheet)) (c .before .before .before .before .before .before .args .at) (c .before .before .before .before .small-at .ensures) (c .before .before .before .judge-luts .ensures) (c .before .luts .given .1)
+returns-2 c =
+    let after-judge-luts = c .before .before .before in
+    let after-small-at = after-judge-luts .before in
+    let start = after-small-at .before .before in
+    luts-faulty (dueOf (start .args .terms)) (now (start .args .sheet)) (start .args .at)
+    (after-small-at .small-at .ensures) (after-judge-luts .judge-luts .ensures) (c .before .luts .given .1)
 
 returns-3 : tie.Need-returns-3
-returns-3 c = luts-sound (dueOf (c .before .before .before .before .before .before .before .args .terms)) (now (c .before .before .before .before .before .before .before .args .sheet)) (c .before .before .before .before .before .before .before .args .at) (c .before .before .before .before .before .small-at .ensures) (c .before .before .before .before .judge-luts .ensures) (c .before .before .luts2 .given .1) (omega arith)
+returns-3 c =
+    let after-judge-luts = c .before .before .before .before in
+    let after-small-at = after-judge-luts .before in
+    let start = after-small-at .before .before in
+    luts-sound (dueOf (start .args .terms)) (now (start .args .sheet)) (start .args .at)
+    (after-small-at .small-at .ensures) (after-judge-luts .judge-luts .ensures) (c .before .before .luts2 .given .1)
+    (omega arith)
 
 pub judge-from-luts-spec : {M : Type 1} → statement M
 judge-from-luts-spec =

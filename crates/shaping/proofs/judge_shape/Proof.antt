@@ -1,7 +1,7 @@
 -- `judge_shape` meets its contract: the head's ruling, then what follows the head.
 use mathlib.Core.Path.{sym, _∙_}
 use denote.Ref.{now}
-use Rattle.sheet.specs.Shape.{dueFrom}
+use Rattle.shaping.specs.Terms.{dueOf}
 use Rattle.shaping.proofs.FieldRuns.{head-faulty, head-then}
 use borrow.Author.Needs.{needs}
 use Rattle.shaping.proofs.judge_shape.Statement.{statement}
@@ -17,17 +17,25 @@ enum-told : tie.Need-enum-told
 enum-told c = search needs
 
 judge-from-lines-requires : tie.Need-judge-from-lines-requires
-judge-from-lines-requires c κs = (c .before .before .before .before .pre .0, (c .before .before .before .before .pre .1, sym (c .before .before .head-ruling .ensures) ∙ c .enum-told .given .1))
+judge-from-lines-requires c κs =
+    let start = c .before .before .before .before in
+    (start .pre .0, (start .pre .1, sym (c .before .before .head-ruling .ensures) ∙ c .enum-told .given .1))
 
 returns : tie.Need-returns
 returns c =
-    let a = c .before .before .before .before .before .args in
-    head-faulty (dueFrom (a .form) (a .most) (a .k .leaves) (a .inputs) (a .nodes)) (now (a .sheet)) (c .before .before .before .head-ruling .ensures) (c .before .head .given .1)
+    let after-head-ruling = c .before .before .before in
+    let start = after-head-ruling .before .before in
+    let a = start .args in
+    head-faulty (dueOf (a .terms)) (now (a .sheet)) (after-head-ruling .head-ruling .ensures)
+    (c .before .head .given .1)
 
 returns-2 : tie.Need-returns-2
 returns-2 c =
-    let a = c .before .before .before .before .before .args in
-    head-then (dueFrom (a .form) (a .most) (a .k .leaves) (a .inputs) (a .nodes)) (now (a .sheet)) (c .before .before .before .head-ruling .ensures) (c .before .enum-told .given .1) (c .judge-from-lines .ensures)
+    let after-head-ruling = c .before .before .before in
+    let start = after-head-ruling .before .before in
+    let a = start .args in
+    head-then (dueOf (a .terms)) (now (a .sheet)) (after-head-ruling .head-ruling .ensures)
+    (c .before .enum-told .given .1) (c .judge-from-lines .ensures)
 
 pub judge-shape-spec : {M : Type 1} → statement M
 judge-shape-spec =

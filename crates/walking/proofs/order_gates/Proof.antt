@@ -1,29 +1,29 @@
 -- `order_gates` meets its contract: by what the sweeps and the search leave.
-use native.Mathlib.Omega.{arith}
-use denote.Ref.{now}
+use Rattle.storage.proofs.Drawings.{drawn-span}
 use Rattle.walking.proofs.Fills.{start-listing}
-use Rattle.walking.proofs.Listings.{drawn-span}
-use Rattle.walking.proofs.Outcomes.{still-long, made-whole, made-loop}
+use Rattle.walking.proofs.Outcomes.{made-whole, made-loop}
 use borrow.Author.Needs.{needs}
 use Rattle.walking.proofs.order_gates.Statement.{statement}
 use Rattle.walking.proofs.order_gates.Tie as tie
 
+sub-gates : tie.Need-sub-gates
+sub-gates c =
+    let start = c .before .before .before .before in
+    drawn-span (start .pre .drawn)
+
 start-requires : tie.Need-start-requires
 start-requires c κs =
-    let p = (c .before .before .before .before .before .pre) in
-    (drawn-span (p .drawn), p .marks-long)
+    let start = c .before .before .before .before .before in
+    (drawn-span (start .pre .drawn), start .pre .marks-long)
 
 sweep-all-requires : tie.Need-sweep-all-requires
 sweep-all-requires c κs =
-    let a = c .before .before .before .before .before .before .before .before .before .before .args in
-    let p = (c .before .before .before .before .before .before .before .before .before .before .pre) in
-    rw (c .before .before .before .before .start .ensures) (start-listing (now (a .marks)) (p .drawn) (drawn-span (p .drawn)) (p .ids) (p .order-long) (p .marks-long))
+    let after-start = c .before .before .before .before in
+    let start = after-start .before .before .before .before .before .before in
+    rw (after-start .start .ensures) (start-listing (start .pre))
 
-sub-if1 : tie.Need-sub-if1
-sub-if1 c = drawn-span ((c .before .before .before .before .before .before .before .before .before .before .before .before .before .before .before .pre) .drawn)
-
-fill-requires : tie.Need-fill-requires
-fill-requires c κs = still-long (c .before .before .before .before .before .before .before .before .before .before .before .before .before .before .before .before .before .pre) (c .before .before .before .before .before .before .before .before .before .before .before .start .ensures) (c .before .before .before .before .before .before .sweep-all .ensures) .0
+clear-requires : tie.Need-clear-requires
+clear-requires c κs = search needs
 
 same-length : tie.Need-same-length
 same-length c = search needs
@@ -32,26 +32,23 @@ same-length-2 : tie.Need-same-length-2
 same-length-2 c = search needs
 
 returns : tie.Need-returns
-returns c = made-whole (c .before .before .before .before .before .before .before .before .before .before .before .before .before .before .before .before .before .before .before .before .pre) (c .before .before .before .before .before .before .before .before .before .before .before .before .before .before .start .ensures) (c .before .before .before .before .before .before .before .before .before .sweep-all .ensures) (c .before .before .before .before .if1 .taken) (c .before .before .fill .ensures)
+returns c =
+    let then1 = c .before .before .before .before in
+    let after-sweep-all = then1 .before .before .before .before .before in
+    let after-start = after-sweep-all .before .before .before .before .before in
+    let start = after-start .before .before .before .before .before .before in
+    let at-clear = c .before .before in
+    made-whole (start .pre) (after-start .start .ensures) (after-sweep-all .sweep-all .ensures) (then1 .if1 .taken)
+    (at-clear .clear .ensures)
 
 lowest-loop-requires : tie.Need-lowest-loop-requires
-lowest-loop-requires c κs =
-    let p = (c .before .before .before .before .before .before .before .before .before .before .before .before .before .before .before .before .before .before .pre) in
-    let s = still-long p (c .before .before .before .before .before .before .before .before .before .before .before .before .start .ensures) (c .before .before .before .before .before .before .before .sweep-all .ensures) in
-    record { drawn = p .drawn; ids = p .ids; order-long = s .1; marks-long = s .0 }
+lowest-loop-requires c κs = search needs
 
-sub-clear : tie.Need-sub-clear
-sub-clear c = drawn-span ((c .before .before .before .before .before .before .before .before .before .before .before .before .before .before .before .before .before .before .before .before .before .before .before .before .pre) .drawn)
+clear-requires-2 : tie.Need-clear-requires-2
+clear-requires-2 c κs = search needs
 
-clear-requires : tie.Need-clear-requires
-clear-requires c κs =
-    let s = still-long (c .before .before .before .before .before .before .before .before .before .before .before .before .before .before .before .before .before .before .before .before .before .before .before .before .pre) (c .before .before .before .before .before .before .before .before .before .before .before .before .before .before .before .before .before .before .start .ensures) (c .before .before .before .before .before .before .before .before .before .before .before .before .before .sweep-all .ensures) in
-    omega (arith, s .1, c .before .before .before .before .before .lowest-loop .ensures .kept .list-size)
-
-fill-requires-2 : tie.Need-fill-requires-2
-fill-requires-2 c κs =
-    let s = still-long (c .before .before .before .before .before .before .before .before .before .before .before .before .before .before .before .before .before .before .before .before .before .before .before .before .before .before .before .before .pre) (c .before .before .before .before .before .before .before .before .before .before .before .before .before .before .before .before .before .before .before .before .before .before .start .ensures) (c .before .before .before .before .before .before .before .before .before .before .before .before .before .before .before .before .before .sweep-all .ensures) in
-    omega (arith, s .0, c .before .before .before .before .before .before .before .before .before .lowest-loop .ensures .kept .marks-size)
+clear-requires-3 : tie.Need-clear-requires-3
+clear-requires-3 c κs = search needs
 
 same-length-3 : tie.Need-same-length-3
 same-length-3 c = search needs
@@ -60,23 +57,33 @@ same-length-4 : tie.Need-same-length-4
 same-length-4 c = search needs
 
 returns-2 : tie.Need-returns-2
-returns-2 c = made-loop (c .before .before .before .before .before .before .before .before .before .before .before .before .before .before .before .before .before .before .before .before .before .before .before .before .before .before .before .before .before .before .before .pre) (c .before .before .before .before .before .before .before .before .before .before .before .before .before .before .before .before .before .before .before .before .before .before .before .before .before .start .ensures) (c .before .before .before .before .before .before .before .before .before .before .before .before .before .before .before .before .before .before .before .before .sweep-all .ensures) (c .before .before .before .before .before .before .before .before .before .before .before .before .before .before .before .if1 .left) (c .before .before .before .before .before .before .before .before .before .before .before .before .lowest-loop .ensures) (c .before .before .before .before .before .before .clear .ensures) (c .before .before .fill2 .ensures)
+returns-2 c =
+    let after-clear2 = c .before .before .before .before .before .before in
+    let after-lowest-loop = after-clear2 .before .before .before .before .before .before in
+    let else1 = after-lowest-loop .before .before .before in
+    let after-sweep-all = else1 .before .before .before .before .before in
+    let after-start = after-sweep-all .before .before .before .before .before in
+    let start = after-start .before .before .before .before .before .before in
+    let at-clear3 = c .before .before in
+    let swept = after-sweep-all .sweep-all .ensures in
+    let found = after-lowest-loop .lowest-loop .ensures in
+    made-loop (start .pre) (after-start .start .ensures) swept (else1 .if1 .left) found
+    (after-clear2 .clear2 .ensures) (at-clear3 .clear3 .ensures)
 
 pub order-gates-spec : {M : Type 1} → statement M
 order-gates-spec =
     tie.close
     (tie.spec
+    sub-gates
     start-requires
     sweep-all-requires
-    sub-if1
-    fill-requires
+    clear-requires
     same-length
     same-length-2
     returns
     lowest-loop-requires
-    sub-clear
-    clear-requires
-    fill-requires-2
+    clear-requires-2
+    clear-requires-3
     same-length-3
     same-length-4
     returns-2)

@@ -1,37 +1,44 @@
--- `mark_ends` meets its contract: the fanins of the gates of D passed are marked.
+-- `mark_ends` meets its contract: the fanins of the members of D passed are ends, where they lie in the area.
 use native.Mathlib.Omega.{arith}
 use Prim.Native.Nat.{ℕ, _-_, _≤_}
-use mathlib.Core.Path.{_≡_, refl, subst}
+use mathlib.Core.Path.{_≡_, subst}
 use mathlib.Core.Logic.{inl, inr, ⊎-elim}
 use denote.Ref.{now}
-use Rattle.area.specs.Area.{Marked}
-use Rattle.area.specs.Passes.{EndIn}
-use Rattle.area.proofs.Parts.{fed-wider}
-use Rattle.area.proofs.Marking.{Filling, filling-all}
+use Rattle.storage.proofs.Drawings.{fed-wider}
+use Rattle.area.specs.Passes.{EndsMarked}
 use Rattle.area.proofs.Ends.{ends-none, ends-turn}
 use Rattle.area.proofs.passes.mark_ends.Statement.{statement}
 use Rattle.area.proofs.passes.mark_ends.Tie as tie
 
 abbrev Inv-loop : tie.InvT-loop
-Inv-loop fan count nodes deep area ends₀ d₀ ends d = (d ≤ nodes) × Filling nodes nodes (EndIn d fan count deep area) ends₀ ends
+Inv-loop nodes fanins roles₀ d₀ roles d = (d ≤ nodes) × EndsMarked d fanins roles₀ roles
 
 abbrev μ-loop : tie.MeasureT-loop
-μ-loop fan count nodes deep area ends₀ d₀ ends d = nodes - d
+μ-loop nodes fanins roles₀ d₀ roles d = nodes - d
 
 loop-holds : tie.Need-loop-holds Inv-loop μ-loop
-loop-holds c = (omega arith, ends-none ((c .before .before .before .before .before .pre) .none))
+loop-holds c = (omega arith, ends-none _ _)
 
-shared-slice-read-if1 : tie.Need-shared-slice-read-if1 Inv-loop μ-loop
-shared-slice-read-if1 c = omega (arith, (c .before .before .before .before .before .before .before .before .pre) .deep-long)
+slice-read-if1 : tie.Need-slice-read-if1 Inv-loop μ-loop
+slice-read-if1 c =
+    let start = c .before .before .before .before .before in
+    let l = c .before .before .loop in
+    let asked = start .pre in
+    omega (arith, asked .roles-long, l .inv .1 .size)
 
-cast-t12 : tie.Need-cast-t12 Inv-loop μ-loop
-cast-t12 c = omega (arith, (c .before .before .before .before .before .before .before .before .before .pre) .ids)
+cast-t9 : tie.Need-cast-t9 Inv-loop μ-loop
+cast-t9 c =
+    let start = c .before .before .before .before .before .before in
+    omega (arith, start .pre .small)
 
 mark-fanins-requires : tie.Need-mark-fanins-requires Inv-loop μ-loop
 mark-fanins-requires c κs =
-    let p = (c .before .before .before .before .before .before .before .before .before .before .pre) in
-    let fed = p .fed (c .before .before .before .before .loop .d) (c .before .before .before .loop-test .taken) in
-    (fed-wider fed (p .area-long), fed-wider fed (omega (arith, p .ends-long, c .before .before .before .before .loop .inv .1 .size)))
+    let in-loop = c .before .before .before in
+    let at-loop = in-loop .before in
+    let start = at-loop .before .before .before in
+    let p = start .pre in
+    let l = at-loop .loop in
+    fed-wider (p .fed (l .d) (in-loop .loop-test .taken)) (omega (arith, p .roles-long, l .inv .1 .size))
 
 add-d : tie.Need-add-d Inv-loop μ-loop
 add-d c = omega arith
@@ -41,19 +48,24 @@ loop-less c = omega arith
 
 loop-again : tie.Need-loop-again Inv-loop μ-loop
 loop-again c =
-    let p = (c .before .before .before .before .before .before .before .before .before .pre) in
-    let l = c .before .before .before .loop in
-    (omega arith, ends-turn (l .inv .1) (p .fed (l .d) (c .before .before .loop-test .taken)) (⊎-elim (λ w. inl (omega (arith, w .0 .taken), rw (w .5) (w .2 .kept .1 .1 .1 .1 .0), rw (w .5) (w .2 .ensures))) (λ w. inr (λ e. omega (arith, e, w .0 .left), w .1)) (c .if1 .came)))
+    let at-loop = c .before .before .before in
+    let l = at-loop .loop in (
+      omega arith,
+      ends-turn (l .inv .1)
+          (⊎-elim (λ w. inl (w .0 .taken, rw (w .5) (w .2 .kept .1 .1 .0), rw (w .5) (w .2 .ensures)))
+          (λ w. inr (w .0 .left, w .1)) (c .if1 .came)),
+    )
 
 same-length : tie.Need-same-length Inv-loop μ-loop
 same-length c = c .before .loop .inv .1 .size
 
 returns : tie.Need-returns Inv-loop μ-loop
 returns c =
-    let a = c .before .before .before .before .before .before .before .args in
+    let start = c .before .before .before .before in
+    let a = start .args in
     let l = c .before .loop in
     let all : l .d ≡ a .nodes = omega arith in
-    subst (λ (d : ℕ). Marked (a .nodes) (EndIn d (now (a .fan)) (now (a .count)) (now (a .deep)) (now (a .area))) (now (a .ends)) (l .ends)) all (filling-all refl (l .inv .1))
+    subst (λ (d : ℕ). EndsMarked d (now (a .fanins)) (now (a .roles)) (l .roles)) all (l .inv .1)
 
 pub mark-ends-spec : {M : Type 1} → statement M
 mark-ends-spec =
@@ -62,8 +74,8 @@ mark-ends-spec =
     Inv-loop
     μ-loop
     loop-holds
-    shared-slice-read-if1
-    cast-t12
+    slice-read-if1
+    cast-t9
     mark-fanins-requires
     add-d
     loop-less

@@ -17,22 +17,36 @@ loop-holds : tie.Need-loop-holds Inv-loop μ-loop
 loop-holds c = λ p e. zero-le
 
 mul-if1 : tie.Need-mul-if1 Inv-loop μ-loop
-mul-if1 c = let p = (c .before .pre) in omega (arith, c .loop .inv (p .place) (p .there), p .inside)
+mul-if1 c =
+    let p = (c .before .pre) in
+    omega (arith, c .loop .inv (p .at) (p .entry), p .inside)
 
 shared-slice-read-if1 : tie.Need-shared-slice-read-if1 Inv-loop μ-loop
-shared-slice-read-if1 c = let p = (c .before .before .pre) in omega (arith, c .before .loop .inv (p .place) (p .there), p .inside)
+shared-slice-read-if1 c =
+    let p = (c .before .before .pre) in
+    omega (arith, c .before .loop .inv (p .at) (p .entry), p .inside)
 
 add-i : tie.Need-add-i Inv-loop μ-loop
-add-i c = let p = (c .before .before .before .pre) in omega (arith, c .before .before .loop .inv (p .place) (p .there), p .inside)
+add-i c =
+    let start = c .before .before .before in
+    let loop = c .before .before .loop in
+    let p = start .pre in
+    omega (arith, loop .inv (p .at) (p .entry), p .inside)
 
 loop-less : tie.Need-loop-less Inv-loop μ-loop
-loop-less c = let p = (c .before .before .before .pre) in omega (arith, c .before .before .loop .inv (p .place) (p .there), p .inside)
+loop-less c =
+    let start = c .before .before .before in
+    let loop = c .before .before .loop in
+    let p = start .pre in
+    omega (arith, loop .inv (p .at) (p .entry), p .inside)
 
 loop-again : tie.Need-loop-again Inv-loop μ-loop
 loop-again c =
-    λ p e.
-    let far = c .before .before .loop .inv p e in
-    let other : p ≡ c .before .before .loop .i → ⊥ = λ s. c .if1 .taken (ap (λ (n : ℕ). getD (now (c .before .before .before .args .order)) n 0) (sym s) ∙ e) in
+    let start = c .before .before .before in
+    let loop = c .before .before .loop in
+    let args = start .args in
+    λ p e. let far = loop .inv p e in
+    let other : p ≡ loop .i → ⊥ = λ s. c .if1 .taken (ap (λ (n : ℕ). getD (now (args .order)) n 0) (sym s) ∙ e) in
     omega arith
 
 returns : tie.Need-returns Inv-loop μ-loop

@@ -17,13 +17,19 @@ abbrev μ-loop : tie.MeasureT-loop
 μ-loop leaves size row values₀ i₀ values i = size - i
 
 loop-holds : tie.Need-loop-holds Inv-loop μ-loop
-loop-holds c = (omega arith, leaves-none (now (c .before .before .args .leaves)) (c .before .before .args .size) (c .before .before .args .row) (now (c .before .before .args .values)))
+loop-holds c =
+    let args = c .before .before .args in
+    (omega arith, leaves-none (now (args .leaves)) (args .size) (args .row) (now (args .values)))
 
 result-at-requires : tie.Need-result-at-requires Inv-loop μ-loop
 result-at-requires c κs = omega arith
 
 add-values : tie.Need-add-values Inv-loop μ-loop
-add-values c = omega (arith, c .result-at .ensures, bit-below (resultAt (c .before .before .before .before .before .args .row) (c .before .before .loop .i)))
+add-values c =
+    let start = c .before .before .before .before .before in
+    let loop = c .before .before .loop in
+    let args = start .args in
+    omega (arith, c .result-at .ensures, bit-below (resultAt (args .row) (loop .i)))
 
 mul-values : tie.Need-mul-values Inv-loop μ-loop
 mul-values c = omega arith
@@ -32,13 +38,28 @@ shared-slice-read-values : tie.Need-shared-slice-read-values Inv-loop μ-loop
 shared-slice-read-values c = omega arith
 
 cast-values : tie.Need-cast-values Inv-loop μ-loop
-cast-values c = omega (arith, c .shared-slice-known2 .given (c .before .before .before .loop .i))
+cast-values c =
+    let at-loop = c .before .before .before in
+    omega (arith, c .shared-slice-known2 .given (at-loop .loop .i))
 
 mul-values-2 : tie.Need-mul-values-2 Inv-loop μ-loop
-mul-values-2 c = let l = c .before .before .before .loop in let low = (c .before .before .before .before .before .before .pre) .nodes (l .i) (omega arith) in omega (arith, (c .before .before .before .before .before .before .good))
+mul-values-2 c =
+    let at-loop = c .before .before .before in
+    let start = at-loop .before .before .before in
+    let good = start .good in
+    let pre = start .pre in
+    let l = at-loop .loop in
+    let low = pre .nodes (l .i) (omega arith) in
+    omega (arith, good)
 
 slice-write-values : tie.Need-slice-write-values Inv-loop μ-loop
-slice-write-values c = let a = c .before .before .before .before .before .before .args in let l = c .before .before .before .loop in omega (arith, (c .before .before .before .before .before .before .pre) .nodes (l .i) (omega arith), l .inv .1 .long)
+slice-write-values c =
+    let at-loop = c .before .before .before in
+    let start = at-loop .before .before .before in
+    let pre = start .pre in
+    let a = start .args in
+    let l = at-loop .loop in
+    omega (arith, pre .nodes (l .i) (omega arith), l .inv .1 .long)
 
 add-i : tie.Need-add-i Inv-loop μ-loop
 add-i c = omega arith
@@ -48,16 +69,26 @@ loop-less c = omega arith
 
 loop-again : tie.Need-loop-again Inv-loop μ-loop
 loop-again c =
-    let a = c .before .before .before .before .before .before .args in let l = c .before .before .before .loop in
-    (omega arith, leaves-more (now (a .leaves)) (a .size) (a .row) (now (a .values)) (l .i) (c .before .before .before .before .before .before .pre) (omega arith) (c .before .result-at .ensures) (l .inv .1))
+    let at-loop = c .before .before .before in
+    let start = at-loop .before .before .before in
+    let pre = start .pre in
+    let a = start .args in
+    let l = at-loop .loop in (
+      omega arith,
+      leaves-more (now (a .leaves)) (a .size) (a .row) (now (a .values)) (l .i) pre (omega arith)
+          (c .before .result-at .ensures) (l .inv .1),
+    )
 
 same-length : tie.Need-same-length Inv-loop μ-loop
 same-length c = omega arith
 
 returns : tie.Need-returns Inv-loop μ-loop
 returns c =
-    let all : c .before .loop .i ≡ c .before .before .before .before .args .size = omega arith in
-    subst (λ (n : ℕ). LeavesSet (now (c .before .before .before .before .args .leaves)) n (c .before .before .before .before .args .row) (now (c .before .before .before .before .args .values)) (c .before .loop .values)) all (c .before .loop .inv .1)
+    let start = c .before .before .before .before in
+    let args = start .args in
+    let all : c .before .loop .i ≡ args .size = omega arith in
+    subst (λ (n : ℕ). LeavesSet (now (args .leaves)) n (args .row) (now (args .values)) (c .before .loop .values))
+    all (c .before .loop .inv .1)
 
 pub set-leaves-spec : {M : Type 1} → statement M
 set-leaves-spec =

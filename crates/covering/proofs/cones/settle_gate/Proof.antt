@@ -1,6 +1,6 @@
 -- `settle_gate` meets its contract: the result stored is that of the row which the fanins' values make.
 use denote.Ref.{now}
-use Rattle.covering.proofs.Sweeps.{gate-row-small, gate-stored, leaf-kept}
+use Rattle.covering.proofs.Sweeps.{part-fits, gate-row, gate-row-small, gate-stored, leaf-kept}
 use borrow.Author.Needs.{needs}
 use Rattle.covering.proofs.cones.settle_gate.Statement.{statement}
 use Rattle.covering.proofs.cones.settle_gate.Tie as tie
@@ -14,17 +14,30 @@ mul-if1 c = search needs
 slice-read-if1 : tie.Need-slice-read-if1
 slice-read-if1 c = search needs
 
+mul-at : tie.Need-mul-at
+mul-at c = search needs
+
 mul-row-of : tie.Need-mul-row-of
 mul-row-of c = search needs
 
-shared-slice-read-row-of : tie.Need-shared-slice-read-row-of
-shared-slice-read-row-of c = search needs
+sub-row-of : tie.Need-sub-row-of
+sub-row-of c = search needs
 
-cast-row-of : tie.Need-cast-row-of
-cast-row-of c = search needs
+part-row-of-start : tie.Need-part-row-of-start
+part-row-of-start c = search needs
+
+part-row-of-end : tie.Need-part-row-of-end
+part-row-of-end c = search needs
+
+size-at-requires : tie.Need-size-at-requires
+size-at-requires c κs = search needs
 
 row-of-requires : tie.Need-row-of-requires
-row-of-requires c κs = search needs
+row-of-requires c κs =
+    let start = c .before .before .before .before .before .before .before .before .before in
+    let a = start .args in
+    part-fits (now (a .fanins)) (now (a .rows)) (a .gate .id) (now (a .values)) (c .before .size-at .ensures)
+    (start .pre .row)
 
 mul-result-at : tie.Need-mul-result-at
 mul-result-at c = search needs
@@ -34,8 +47,12 @@ shared-slice-read-result-at c = search needs
 
 result-at-requires : tie.Need-result-at-requires
 result-at-requires c κs =
-    let a = c .before .before .before .before .before .before .before .before .before .before .before .args in
-    rw (c .before .row-of .ensures) (gate-row-small (now (a .fan)) (now (a .count)) (now (a .rows)) (a .gate .id) (now (a .values)) (c .before .before .before .before .before .before .before .before .before .before .before .pre))
+    let after-size-at = c .before .before .before in
+    let start = after-size-at .before .before .before .before .before .before .before .before in
+    let a = start .args in
+    let row = gate-row (now (a .fanins)) (now (a .rows)) (a .gate .id) (now (a .values))
+    (c .before .row-of .ensures) (after-size-at .size-at .ensures) (start .pre .row .few) in
+    rw row (gate-row-small (now (a .fanins)) (now (a .rows)) (a .gate .id) (now (a .values)) (start .pre))
 
 mul-values : tie.Need-mul-values
 mul-values c = search needs
@@ -48,13 +65,20 @@ same-length c = search needs
 
 returns : tie.Need-returns
 returns c =
-    let a = c .before .before .before .before .before .before .before .before .before .before .before .before .args in
-    gate-stored (now (a .fan)) (now (a .count)) (now (a .rows)) (a .gate .id) (now (a .values)) (c .before .before .row-of .ensures) (c .result-at .ensures) (c .before .before .before .before .before .if1 .taken)
+    let after-size-at = c .before .before .before .before in
+    let then1 = after-size-at .before .before in
+    let start = then1 .before .before .before .before .before .before in
+    let a = start .args in
+    let row = gate-row (now (a .fanins)) (now (a .rows)) (a .gate .id) (now (a .values))
+    (c .before .before .row-of .ensures) (after-size-at .size-at .ensures) (start .pre .row .few) in
+    gate-stored (now (a .fanins)) (now (a .rows)) (a .gate .id) (now (a .values)) row (c .result-at .ensures)
+    (then1 .if1 .taken)
 
 returns-2 : tie.Need-returns-2
 returns-2 c =
-    let a = c .before .before .before .before .before .before .before .args in
-    leaf-kept (now (a .fan)) (now (a .count)) (now (a .rows)) (a .gate .id) (now (a .values)) (c .if1 .left)
+    let start = c .before .before .before .before .before .before in
+    let a = start .args in
+    leaf-kept (now (a .fanins)) (now (a .rows)) (a .gate .id) (now (a .values)) (c .if1 .left)
 
 pub settle-gate-spec : {M : Type 1} → statement M
 settle-gate-spec =
@@ -63,9 +87,12 @@ settle-gate-spec =
     cast-v
     mul-if1
     slice-read-if1
+    mul-at
     mul-row-of
-    shared-slice-read-row-of
-    cast-row-of
+    sub-row-of
+    part-row-of-start
+    part-row-of-end
+    size-at-requires
     row-of-requires
     mul-result-at
     shared-slice-read-result-at

@@ -9,24 +9,28 @@ use Rattle.covering.proofs.covers.count_marks.Statement.{statement}
 use Rattle.covering.proofs.covers.count_marks.Tie as tie
 
 abbrev Inv-loop : tie.InvT-loop
-Inv-loop root nodes total₀ v₀ total v = (v ≤ nodes) × (total ≤ v) × (total ≡ lutCount (isRoot nodes root) v)
+Inv-loop marks nodes total₀ v₀ total v = (v ≤ nodes) × (total ≤ v) × (total ≡ lutCount (isRoot nodes marks) v)
 
 abbrev μ-loop : tie.MeasureT-loop
-μ-loop root nodes total₀ v₀ total v = nodes - v
+μ-loop marks nodes total₀ v₀ total v = nodes - v
 
 loop-holds : tie.Need-loop-holds Inv-loop μ-loop
-loop-holds c = (omega arith, omega arith, count-none (now (c .args .root)) (c .args .nodes))
+loop-holds c = (omega arith, omega arith, count-none (now (c .args .marks)) (c .args .nodes))
 
 shared-slice-read-total : tie.Need-shared-slice-read-total Inv-loop μ-loop
-shared-slice-read-total c = omega (arith, (c .before .before .before .pre) .inside)
+shared-slice-read-total c =
+    let start = c .before .before .before in
+    omega (arith, start .pre .inside)
 
 cast-total : tie.Need-cast-total Inv-loop μ-loop
 cast-total c = omega (arith, c .shared-slice-known .given (c .before .before .loop .v))
 
 add-total : tie.Need-add-total Inv-loop μ-loop
 add-total c =
-    let a = c .before .before .before .args in let l = c .before .before .loop in
-    omega (arith, mark-small (now (a .root)) (a .nodes) (l .v) (c .before .before .before .pre) (omega arith))
+    let start = c .before .before .before in
+    let a = start .args in
+    let l = c .before .before .loop in
+    omega (arith, mark-small (now (a .marks)) (a .nodes) (l .v) (start .pre) (omega arith))
 
 add-v : tie.Need-add-v Inv-loop μ-loop
 add-v c = omega arith
@@ -36,13 +40,19 @@ loop-less c = omega arith
 
 loop-again : tie.Need-loop-again Inv-loop μ-loop
 loop-again c =
-    let a = c .before .before .before .args in let l = c .before .before .loop in
-    (omega arith, omega (arith, mark-small (now (a .root)) (a .nodes) (l .v) (c .before .before .before .pre) (omega arith)), count-more (now (a .root)) (a .nodes) (l .v) (c .before .before .before .pre) (omega arith) (l .inv .2))
+    let start = c .before .before .before in
+    let a = start .args in
+    let l = c .before .before .loop in
+    let p = start .pre in
+    let small = mark-small (now (a .marks)) (a .nodes) (l .v) p (omega arith) in
+    (omega arith, omega arith, count-more (now (a .marks)) (a .nodes) (l .v) p (omega arith) (l .inv .2))
 
 returns : tie.Need-returns Inv-loop μ-loop
 returns c =
-    let all : c .before .loop .v ≡ c .before .before .args .nodes = omega arith in
-    c .before .loop .inv .2 ∙ ap (lutCount (isRoot (c .before .before .args .nodes) (now (c .before .before .args .root)))) all
+    let a = c .before .before .args in
+    let l = c .before .loop in
+    let all : l .v ≡ a .nodes = omega arith in
+    l .inv .2 ∙ ap (lutCount (isRoot (a .nodes) (now (a .marks)))) all
 
 pub count-marks-spec : {M : Type 1} → statement M
 count-marks-spec =

@@ -1,72 +1,143 @@
--- `cover` meets its contract: back along the order, what is marked is needed, and what had its turn has its leaves marked.
+-- `cover` meets its contract: back along the order, what is marked is needed, and what had its turn has its leaves
+-- marked.
 use native.Mathlib.Omega.{arith}
 use Prim.Native.Nat.{_+_, _-_}
-use mathlib.Core.Path.{_≡_, _∙_}
+use mathlib.Core.Path.{_≡_, refl, ap, _∙_}
 use lib.ListN.{length, take}
 use denote.Ref.{now}
-use Rattle.covering.proofs.Backing.{Backed, outputs-fit, cut-fits, backed-first, backed-more, marks-fit, cover-made}
+use Rattle.storage.proofs.Clears.{cleared-size}
+use Rattle.covering.proofs.Backing.{Backed, outputs-fit, cut-fits, backed-first, backed-more, marks-fit}
+use Rattle.covering.proofs.Backing.{cover-made}
 use Rattle.covering.proofs.covers.cover.Statement.{statement}
 use Rattle.covering.proofs.covers.cover.Tie as tie
 
 abbrev Inv-loop : tie.InvT-loop
-Inv-loop inputs nodes order leaves sizes outputs number root₀ i₀ root i = Backed inputs nodes order leaves sizes (take number outputs) i root₀ root
+Inv-loop order cuts outputs luts₀ inputs nodes number i₀ luts i =
+    Backed inputs nodes order cuts (take number outputs) i luts₀ luts
 
 abbrev μ-loop : tie.MeasureT-loop
-μ-loop inputs nodes order leaves sizes outputs number root₀ i₀ root i = i
+μ-loop order cuts outputs luts₀ inputs nodes number i₀ luts i = i
 
 clear-requires : tie.Need-clear-requires Inv-loop μ-loop
-clear-requires c κs = (c .before .before .before .before .before .before .pre) .root-long
+clear-requires c κs =
+    let start = c .before .before .before .before .before in
+    let pre = start .pre in
+    pre .luts-long
 
 mark-gates-requires : tie.Need-mark-gates-requires Inv-loop μ-loop
 mark-gates-requires c κs =
-    let a = c .before .before .before .before .before .before .before .before .before .before .args in
-    rw (c .before .before .before .clear .ensures .long) (outputs-fit (a .inputs) (a .nodes) (now (a .order)) (now (a .leaves)) (now (a .sizes)) (now (a .outputs)) (a .number) (length (now (a .root))) (c .before .before .before .before .before .before .before .before .before .before .pre))
+    let after-clear = c .before .before .before in
+    let start = after-clear .before .before .before .before .before .before in
+    let clear = after-clear .clear in
+    let a = start .args in
+    let p = start .pre in
+    let same = ap length (clear .ensures) ∙ cleared-size (a .numbers .nodes) (now (a .luts)) (p .luts-long) in
+    rw same (outputs-fit p)
 
 sub-i : tie.Need-sub-i Inv-loop μ-loop
-sub-i c = (c .before .before .before .before .before .before .before .before .before .before .before .before .before .pre) .chosen .span
+sub-i c =
+    let start = c .before .before .before .before .before .before .before .before .before .before .before .before in
+    let pre = start .pre in
+    pre .chosen .span
 
 loop-holds : tie.Need-loop-holds Inv-loop μ-loop
 loop-holds c =
-    let a = c .before .before .before .before .before .before .before .before .before .before .before .before .before .args in
-    backed-first (a .inputs) (a .nodes) (now (a .order)) (now (a .leaves)) (now (a .sizes)) (now (a .outputs)) (a .number) (length (now (a .root))) (c .before .before .before .before .before .before .before .before .before .before .before .before .before .pre) (c .before .before .before .before .before .before .clear .ensures) (c .before .before .mark-gates .ensures)
+    let after-clear = c .before .before .before .before .before .before in
+    let start = after-clear .before .before .before .before .before .before in
+    let mark-gates = c .before .before .mark-gates in
+    let clear = after-clear .clear in
+    let args = start .args in
+    let pre = start .pre in
+    backed-first pre (now (args .luts)) refl (clear .ensures) (mark-gates .ensures)
 
 sub-i-2 : tie.Need-sub-i-2 Inv-loop μ-loop
 sub-i-2 c = omega arith
 
 mul-t17 : tie.Need-mul-t17 Inv-loop μ-loop
-mul-t17 c = omega (arith, c .before .loop .inv .passed, (c .before .before .before .before .before .before .before .before .before .before .before .before .before .before .before .pre) .chosen .order-long)
+mul-t17 c =
+    let start = c .before .before .before .before .before .before .before .before .before .before .before .before
+    .before .before in
+    let pre = start .pre in
+    omega (arith, c .before .loop .inv .passed, pre .chosen .order-long)
 
 shared-slice-read-t19 : tie.Need-shared-slice-read-t19 Inv-loop μ-loop
-shared-slice-read-t19 c = omega (arith, c .before .before .loop .inv .passed, (c .before .before .before .before .before .before .before .before .before .before .before .before .before .before .before .before .pre) .chosen .order-long)
+shared-slice-read-t19 c =
+    let start = c .before .before .before .before .before .before .before .before .before .before .before .before
+    .before .before .before in
+    let loop = c .before .before .loop in
+    let pre = start .pre in
+    omega (arith, loop .inv .passed, pre .chosen .order-long)
 
 mark-leaves-requires : tie.Need-mark-leaves-requires Inv-loop μ-loop
 mark-leaves-requires c κs =
-    let a = c .before .before .before .before .before .before .before .before .before .before .before .before .before .before .before .before .before .args in
-    rw (c .before .before .before .loop .inv .long, c .before .before .before .before .before .before .mark-gates .ensures .long, c .before .before .before .before .before .before .before .before .before .before .clear .ensures .long) (cut-fits (a .inputs) (a .nodes) (now (a .order)) (now (a .leaves)) (now (a .sizes)) (now (a .outputs)) (a .number) (length (now (a .root))) (c .before .before .before .before .before .before .before .before .before .before .before .before .before .before .before .before .before .pre) (c .before .before .before .loop .i - 1) (omega (arith, c .before .before .before .loop .inv .passed)))
+    let at-loop = c .before .before .before in
+    let after-mark-gates = at-loop .before .before .before in
+    let after-clear = after-mark-gates .before .before .before .before in
+    let start = after-clear .before .before .before .before .before .before in
+    let mark-gates = after-mark-gates .mark-gates in
+    let clear = after-clear .clear in
+    let a = start .args in
+    let p = start .pre in
+    let l = at-loop .loop in
+    let same = ap length (clear .ensures) ∙ cleared-size (a .numbers .nodes) (now (a .luts)) (p .luts-long) in
+    rw (l .inv .rest .size, mark-gates .ensures .long, same) (cut-fits p (l .i - 1) (omega (arith, l .inv .passed)))
 
 loop-less : tie.Need-loop-less Inv-loop μ-loop
 loop-less c = omega arith
 
 loop-again : tie.Need-loop-again Inv-loop μ-loop
 loop-again c =
-    let a = c .before .before .before .before .before .before .before .before .before .before .before .before .before .before .before .before .before .before .before .before .args in
-    let one : c .before .before .before .before .before .before .loop .i ≡ c .before .before .before .before .before .before .loop .i - 1 + 1 = omega arith in
-    backed-more (a .inputs) (a .nodes) (now (a .order)) (now (a .leaves)) (now (a .sizes)) (now (a .outputs)) (a .number) (length (now (a .root))) (c .before .before .before .before .before .before .before .before .before .before .before .before .before .before .before .before .before .before .before .before .pre) (c .before .before .before .before .before .before .loop .i - 1) (omega (arith, c .before .before .before .before .before .before .loop .inv .passed)) (rw one at (c .before .before .before .before .before .before .loop .inv)) (c .before .before .mark-leaves .ensures)
+    let at-loop = c .before .before .before .before .before .before in
+    let start = at-loop .before .before .before .before .before .before .before .before .before .before .before .before
+    .before in
+    let mark-leaves = c .before .before .mark-leaves in
+    let pre = start .pre in
+    let l = at-loop .loop in
+    let one : l .i ≡ l .i - 1 + 1 = omega arith in
+    backed-more pre (l .i - 1) (omega (arith, l .inv .passed)) (rw one at (l .inv)) (mark-leaves .ensures)
 
 count-marks-requires : tie.Need-count-marks-requires Inv-loop μ-loop
 count-marks-requires c κs =
-    let a = c .before .before .before .before .before .before .before .before .before .before .before .before .before .before .before .before .args in
-    let none : c .before .before .loop .i ≡ 0 = omega arith in
-    marks-fit (a .inputs) (a .nodes) (now (a .order)) (now (a .leaves)) (now (a .sizes)) (now (a .outputs)) (a .number) (length (now (a .root))) (c .before .before .before .before .before .before .before .before .before .before .before .before .before .before .before .before .pre) (rw none at (c .before .before .loop .inv)) (c .before .before .before .before .before .mark-gates .ensures .long ∙ c .before .before .before .before .before .before .before .before .before .clear .ensures .long)
+    let after-mark-gates = c .before .before .before .before .before in
+    let after-clear = after-mark-gates .before .before .before .before in
+    let start = after-clear .before .before .before .before .before .before in
+    let mark-gates = after-mark-gates .mark-gates in
+    let clear = after-clear .clear in
+    let a = start .args in
+    let p = start .pre in
+    let l = c .before .before .loop in
+    let none : l .i ≡ 0 = omega arith in
+    let same = ap length (clear .ensures) ∙ cleared-size (a .numbers .nodes) (now (a .luts)) (p .luts-long) in
+    marks-fit p (rw none at (l .inv)) (mark-gates .ensures .long ∙ same)
 
 same-length : tie.Need-same-length Inv-loop μ-loop
-same-length c = c .before .before .before .loop .inv .long ∙ c .before .before .before .before .before .before .mark-gates .ensures .long ∙ c .before .before .before .before .before .before .before .before .before .before .clear .ensures .long
+same-length c =
+    let at-loop = c .before .before .before in
+    let after-mark-gates = at-loop .before .before .before in
+    let after-clear = after-mark-gates .before .before .before .before in
+    let start = after-clear .before .before .before .before .before .before in
+    let loop = at-loop .loop in
+    let mark-gates = after-mark-gates .mark-gates in
+    let clear = after-clear .clear in
+    let a = start .args in
+    let pre = start .pre in
+    let same = ap length (clear .ensures) ∙ cleared-size (a .numbers .nodes) (now (a .luts)) (pre .luts-long) in
+    loop .inv .rest .size ∙ mark-gates .ensures .long ∙ same
 
 returns : tie.Need-returns Inv-loop μ-loop
 returns c =
-    let a = c .before .before .before .before .before .before .before .before .before .before .before .before .before .before .before .before .before .args in
-    let none : c .before .before .before .loop .i ≡ 0 = omega arith in
-    cover-made (a .inputs) (a .nodes) (now (a .order)) (now (a .leaves)) (now (a .sizes)) (now (a .outputs)) (a .number) (length (now (a .root))) (c .before .before .before .before .before .before .before .before .before .before .before .before .before .before .before .before .before .pre) (rw none at (c .before .before .before .loop .inv)) (c .before .before .before .before .before .before .before .before .before .before .clear .ensures) (c .before .before .before .before .before .before .mark-gates .ensures) (c .count-marks .ensures)
+    let at-loop = c .before .before .before in
+    let after-mark-gates = at-loop .before .before .before in
+    let after-clear = after-mark-gates .before .before .before .before in
+    let start = after-clear .before .before .before .before .before .before in
+    let mark-gates = after-mark-gates .mark-gates in
+    let clear = after-clear .clear in
+    let args = start .args in
+    let pre = start .pre in
+    let l = at-loop .loop in
+    let none : l .i ≡ 0 = omega arith in
+    cover-made pre (rw none at (l .inv)) (now (args .luts)) refl (clear .ensures) (mark-gates .ensures)
+    (c .count-marks .ensures)
 
 pub cover-spec : {M : Type 1} → statement M
 cover-spec =

@@ -8,8 +8,8 @@ use Rattle.covering.proofs.covers.mark_gate.Tie as tie
 cast-v : tie.Need-cast-v
 cast-v c = search needs
 
-slice-write-root : tie.Need-slice-write-root
-slice-write-root c = search needs
+slice-write-marks : tie.Need-slice-write-marks
+slice-write-marks c = search needs
 
 same-length : tie.Need-same-length
 same-length c = search needs
@@ -21,4 +21,4 @@ returns-2 : tie.Need-returns-2
 returns-2 c = record { gate = λ high. absurd (omega (arith, c .if1 .left)); input = λ _. refl }
 
 pub mark-gate-spec : {M : Type 1} → statement M
-mark-gate-spec = tie.close (tie.spec cast-v slice-write-root same-length returns returns-2)
+mark-gate-spec = tie.close (tie.spec cast-v slice-write-marks same-length returns returns-2)

@@ -9,45 +9,77 @@ use Rattle.covering.proofs.covers.mark_gates.Statement.{statement}
 use Rattle.covering.proofs.covers.mark_gates.Tie as tie
 
 abbrev Inv-loop : tie.InvT-loop
-Inv-loop ids at many inputs root₀ i₀ root i = (i ≤ many) × GatesMarked ids at i inputs root₀ root
+Inv-loop ids at many inputs marks₀ i₀ marks i = (i ≤ many) × GatesMarked ids at i inputs marks₀ marks
 
 abbrev μ-loop : tie.MeasureT-loop
-μ-loop ids at many inputs root₀ i₀ root i = many - i
+μ-loop ids at many inputs marks₀ i₀ marks i = many - i
 
 loop-holds : tie.Need-loop-holds Inv-loop μ-loop
-loop-holds c = let a = c .before .before .args in (omega arith, gates-none (now (a .ids)) (a .at) (a .inputs) (now (a .root)))
+loop-holds c =
+    let a = c .before .before .args in
+    (omega arith, gates-none (now (a .ids)) (a .at) (a .inputs) (now (a .marks)))
 
 add-t9 : tie.Need-add-t9 Inv-loop μ-loop
-add-t9 c = omega (arith, (c .before .before .before .before .pre) .inside)
+add-t9 c =
+    let start = c .before .before .before .before in
+    let pre = start .pre in
+    omega (arith, pre .inside)
 
 mul-t10 : tie.Need-mul-t10 Inv-loop μ-loop
-mul-t10 c = omega (arith, (c .before .before .before .before .pre) .inside)
+mul-t10 c =
+    let start = c .before .before .before .before in
+    let pre = start .pre in
+    omega (arith, pre .inside)
 
 shared-slice-read-t12 : tie.Need-shared-slice-read-t12 Inv-loop μ-loop
-shared-slice-read-t12 c = omega (arith, (c .before .before .before .before .before .pre) .inside)
+shared-slice-read-t12 c =
+    let start = c .before .before .before .before .before in
+    let pre = start .pre in
+    omega (arith, pre .inside)
 
 mark-gate-requires : tie.Need-mark-gate-requires Inv-loop μ-loop
-mark-gate-requires c κs = let l = c .before .before .before .loop in rw (l .inv .1 .long) ((c .before .before .before .before .before .before .pre) .nodes (l .i) (omega arith))
+mark-gate-requires c κs =
+    let at-loop = c .before .before .before in
+    let start = at-loop .before .before .before in
+    let pre = start .pre in
+    let l = at-loop .loop in
+    rw (l .inv .1 .long) (pre .nodes (l .i) (omega arith))
 
 add-i : tie.Need-add-i Inv-loop μ-loop
-add-i c = omega (arith, (c .before .before .before .before .before .before .before .before .before .pre) .inside)
+add-i c =
+    let start = c .before .before .before .before .before .before .before .before .before in
+    let pre = start .pre in
+    omega (arith, pre .inside)
 
 loop-less : tie.Need-loop-less Inv-loop μ-loop
-loop-less c = omega (arith, (c .before .before .before .before .before .before .before .before .before .pre) .inside)
+loop-less c =
+    let start = c .before .before .before .before .before .before .before .before .before in
+    let pre = start .pre in
+    omega (arith, pre .inside)
 
 loop-again : tie.Need-loop-again Inv-loop μ-loop
 loop-again c =
-    let a = c .before .before .before .before .before .before .before .before .before .args in let l = c .before .before .before .before .before .before .loop in
-    (omega arith, gates-more (now (a .ids)) (a .at) (a .inputs) (now (a .root)) (a .many) (l .i) (c .before .before .before .before .before .before .before .before .before .pre) (omega arith) (l .inv .1) (c .before .before .mark-gate .ensures))
+    let at-loop = c .before .before .before .before .before .before in
+    let start = at-loop .before .before .before in
+    let mark-gate = c .before .before .mark-gate in
+    let pre = start .pre in
+    let a = start .args in
+    let l = at-loop .loop in (
+      omega arith,
+      gates-more (now (a .ids)) (a .at) (a .inputs) (now (a .marks)) (a .many) (l .i) pre (omega arith) (l .inv .1)
+          (mark-gate .ensures),
+    )
 
 same-length : tie.Need-same-length Inv-loop μ-loop
 same-length c = c .before .loop .inv .1 .long
 
 returns : tie.Need-returns Inv-loop μ-loop
 returns c =
-    let a = c .before .before .before .before .args in let l = c .before .loop in
+    let start = c .before .before .before .before in
+    let a = start .args in
+    let l = c .before .loop in
     let all : l .i ≡ a .many = omega arith in
-    subst (λ (n : ℕ). GatesMarked (now (a .ids)) (a .at) n (a .inputs) (now (a .root)) (l .root)) all (l .inv .1)
+    subst (λ (n : ℕ). GatesMarked (now (a .ids)) (a .at) n (a .inputs) (now (a .marks)) (l .marks)) all (l .inv .1)
 
 pub mark-gates-spec : {M : Type 1} → statement M
 mark-gates-spec =

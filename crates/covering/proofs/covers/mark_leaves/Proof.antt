@@ -13,20 +13,29 @@ slice-read-if1 c = search needs
 mul-mark-gates : tie.Need-mul-mark-gates
 mul-mark-gates c = search needs
 
-shared-slice-read-mark-gates : tie.Need-shared-slice-read-mark-gates
-shared-slice-read-mark-gates c = search needs
+add-mark-gates : tie.Need-add-mark-gates
+add-mark-gates c = search needs
 
-cast-mark-gates : tie.Need-cast-mark-gates
-cast-mark-gates c = search needs
+size-at-requires : tie.Need-size-at-requires
+size-at-requires c κs = search needs
 
 mark-gates-requires : tie.Need-mark-gates-requires
-mark-gates-requires c κs = search needs
+mark-gates-requires c κs =
+    let start = c .before .before .before .before .before .before .before in
+    let pre = start .pre in
+    rw (c .before .size-at .ensures) (pre .gates)
 
 same-length : tie.Need-same-length
 same-length c = search needs
 
 returns : tie.Need-returns
-returns c = record { root = λ _. c .before .before .mark-gates .ensures; other = λ out. absurd (out (c .before .before .before .before .before .if1 .taken)) }
+returns c =
+    let after-size-at = c .before .before .before .before in
+    let then1 = after-size-at .before in
+    let mark-gates = c .before .before .mark-gates in
+    let size-at = after-size-at .size-at in
+    let if1 = then1 .if1 in
+    record { root = λ _. rw (size-at .ensures) at (mark-gates .ensures); other = λ out. absurd (out (if1 .taken)) }
 
 returns-2 : tie.Need-returns-2
 returns-2 c = record { root = λ one. absurd (c .if1 .left one); other = λ _. refl }
@@ -38,8 +47,8 @@ mark-leaves-spec =
     cast-v
     slice-read-if1
     mul-mark-gates
-    shared-slice-read-mark-gates
-    cast-mark-gates
+    add-mark-gates
+    size-at-requires
     mark-gates-requires
     same-length
     returns

@@ -24,7 +24,8 @@ array-read-result c = search needs
 
 returns : tie.Need-returns
 unfolding full right
-returns c = eqb→eq (getD full (c .args .m) 0 + 1) (2 ^ (2 ^ (c .args .m))) (each-entry right full tt (c .args .m) (omega arith))
+returns c =
+    eqb→eq (getD full (c .args .m) 0 + 1) (2 ^ (2 ^ (c .args .m))) (each-entry right full tt (c .args .m) (omega arith))
 
 pub full-table-spec : {M : Type 1} → statement M
 full-table-spec = tie.close (tie.spec mul-result array-read-result returns)

@@ -22,7 +22,11 @@ loop-holds c = (omega arith, sym (number-none (now (c .before .args .s)) (c .bef
 
 -- src/bytes.rt:25:18
 mul-number : tie.Need-mul-number Inv-loop μ-loop
-mul-number c = omega (arith, word-room (c .before .loop .number * 256 + 0) (c .before .loop .i + 1) (omega arith) (byte-room (c .before .loop .number) (c .before .loop .i) 0 (omega arith) (omega arith)))
+mul-number c = omega (
+  arith,
+  word-room (c .before .loop .number * 256 + 0) (c .before .loop .i + 1) (omega arith)
+      (byte-room (c .before .loop .number) (c .before .loop .i) 0 (omega arith) (omega arith)),
+)
 
 -- src/bytes.rt:25:44
 add-byte-at : tie.Need-add-byte-at Inv-loop μ-loop
@@ -34,7 +38,12 @@ byte-at-requires c κs = omega arith
 
 -- src/bytes.rt:25:18
 add-number : tie.Need-add-number Inv-loop μ-loop
-add-number c = omega (arith, word-room (c .before .before .loop .number * 256 + c .byte-at .result) (c .before .before .loop .i + 1) (omega arith) (byte-room (c .before .before .loop .number) (c .before .before .loop .i) (c .byte-at .result) (omega arith) (c .byte-at .ensures .small)))
+add-number c = omega (
+  arith,
+  word-room (c .before .before .loop .number * 256 + c .byte-at .result) (c .before .before .loop .i + 1) (omega arith)
+      (byte-room (c .before .before .loop .number) (c .before .before .loop .i) (c .byte-at .result) (omega arith)
+      (c .byte-at .ensures .small)),
+)
 
 -- src/bytes.rt:26:9
 add-i : tie.Need-add-i Inv-loop μ-loop
@@ -47,16 +56,23 @@ loop-less c = omega arith
 -- src/bytes.rt:24:5
 loop-again : tie.Need-loop-again Inv-loop μ-loop
 loop-again c =
-    let a = c .before .before .before .before .args in (
+    let start = c .before .before .before .before in
+    let a = start .args in (
       omega arith,
-      omega (arith, number-more (now (a .s)) (a .at) (c .before .before .loop .i) (omega arith), c .byte-at .ensures .byte),
-      byte-room (c .before .before .loop .number) (c .before .before .loop .i) (c .byte-at .result) (omega arith) (c .byte-at .ensures .small),
+      omega (
+        arith,
+        number-more (now (a .s)) (a .at) (c .before .before .loop .i) (omega arith),
+        c .byte-at .ensures .byte,
+      ),
+      byte-room (c .before .before .loop .number) (c .before .before .loop .i) (c .byte-at .result) (omega arith)
+          (c .byte-at .ensures .small),
     )
 
 -- src/bytes.rt:17:1
 returns : tie.Need-returns Inv-loop μ-loop
 returns c =
-    let a = c .before .before .before .args in
+    let start = c .before .before .before in
+    let a = start .args in
     let all : c .before .loop .i ≡ a .size = omega arith in
     rw (← all) (c .before .loop .inv .1)
 

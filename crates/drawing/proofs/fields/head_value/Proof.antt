@@ -5,131 +5,161 @@ use mathlib.Core.Path.{_∙_}
 use denote.Ref.{now}
 use lib.ListN.{getD}
 use borrow.Author.Tests.{eq-eqb, ne-eqb, lt-ltb, le-ltb}
+use Rattle.drawing.specs.Limits.{leastK, mostK, leastInputs, mostInputs, version, versionAt}
 use Rattle.drawing.specs.Bytes.{lengthAt}
-use Rattle.drawing.specs.Fields.{headK, headI, headG}
+use Rattle.drawing.specs.Fields.{headK, headI, gatesIn}
 use borrow.Author.Needs.{needs}
 use Rattle.drawing.proofs.fields.head_value.Statement.{statement}
 use Rattle.drawing.proofs.fields.head_value.Tie as tie
 
--- src/fields.rt:43:8
+-- src/fields.rt:59:8
 length-at-requires : tie.Need-length-at-requires
 length-at-requires c κs = search needs
 
--- src/fields.rt:44:9
+-- src/fields.rt:60:9
 returns : tie.Need-returns
 returns c =
-    let a = c .before .before .before .args in
+    let start = c .before .before .before .before in
+    let a = start .args in
     let s = now (a .s) in
-    simp (ne-eqb (lengthAt s 0) 4 (λ e. c .if1 .taken (c .before .length-at .ensures ∙ e)))
+    simp (ne-eqb (lengthAt s 0) (a .form .size) (λ e. c .if1 .taken (c .before .before .length-at .ensures ∙ e)))
 
--- src/fields.rt:46:9
+-- src/fields.rt:62:9
 byte-at-requires : tie.Need-byte-at-requires
 byte-at-requires c κs = search needs
 
--- src/fields.rt:47:9
+-- src/fields.rt:63:9
 byte-at-requires-2 : tie.Need-byte-at-requires-2
 byte-at-requires-2 c κs = search needs
 
--- src/fields.rt:48:8
+-- src/fields.rt:64:8
 byte-at-requires-3 : tie.Need-byte-at-requires-3
 byte-at-requires-3 c κs = search needs
 
--- src/fields.rt:49:9
+-- src/fields.rt:65:9
 returns-2 : tie.Need-returns-2
 returns-2 c =
-    let a = c .before .before .before .before .before .before .before .args in
+    let start = c .before .before .before .before .before .before .before .before in
+    let a = start .args in
     let s = now (a .s) in
     simp (
-      eq-eqb (lengthAt s 0) 4 (omega arith),
-      ne-eqb (getD s 3 0) 1 (λ e. c .if2 .taken (c .before .byte-at3 .ensures .byte ∙ e)),
+      eq-eqb (lengthAt s 0) (a .form .size) (omega arith),
+      ne-eqb (getD s versionAt 0) version (λ e. c .if2 .taken (c .before .byte-at3 .ensures .byte ∙ e)),
     )
 
--- src/fields.rt:52:9
+-- src/fields.rt:68:9
 returns-3 : tie.Need-returns-3
 returns-3 c =
-    let a = c .before .before .before .before .before .before .before .before .args in
+    let start = c .before .before .before .before .before .before .before .before .before in
+    let a = start .args in
     let s = now (a .s) in
     simp (
-      eq-eqb (lengthAt s 0) 4 (omega arith),
-      eq-eqb (getD s 3 0) 1 (omega arith),
-      lt-ltb (headK s) 2 (omega arith),
+      eq-eqb (lengthAt s 0) (a .form .size) (omega arith),
+      eq-eqb (getD s versionAt 0) version (omega arith),
+      lt-ltb (headK s) leastK (omega arith),
     )
 
--- src/fields.rt:55:9
+-- src/fields.rt:71:9
 returns-4 : tie.Need-returns-4
 returns-4 c =
-    let a = c .before .before .before .before .before .before .before .before .before .args in
+    let start = c .before .before .before .before .before .before .before .before .before .before in
+    let a = start .args in
     let s = now (a .s) in
     simp (
-      eq-eqb (lengthAt s 0) 4 (omega arith),
-      eq-eqb (getD s 3 0) 1 (omega arith),
-      le-ltb (headK s) 2 (omega arith),
-      lt-ltb 6 (headK s) (omega arith),
+      eq-eqb (lengthAt s 0) (a .form .size) (omega arith),
+      eq-eqb (getD s versionAt 0) version (omega arith),
+      le-ltb (headK s) leastK (omega arith),
+      lt-ltb mostK (headK s) (omega arith),
     )
 
--- src/fields.rt:58:9
+-- src/fields.rt:74:9
 returns-5 : tie.Need-returns-5
 returns-5 c =
-    let a = c .before .before .before .before .before .before .before .before .before .before .args in
+    let start = c .before .before .before .before .before .before .before .before .before .before .before in
+    let a = start .args in
     let s = now (a .s) in
     simp (
-      eq-eqb (lengthAt s 0) 4 (omega arith),
-      eq-eqb (getD s 3 0) 1 (omega arith),
-      le-ltb (headK s) 2 (omega arith),
-      le-ltb 6 (headK s) (omega arith),
-      lt-ltb (headI s) 1 (omega arith),
+      eq-eqb (lengthAt s 0) (a .form .size) (omega arith),
+      eq-eqb (getD s versionAt 0) version (omega arith),
+      le-ltb (headK s) leastK (omega arith),
+      le-ltb mostK (headK s) (omega arith),
+      lt-ltb (headI s) leastInputs (omega arith),
     )
 
--- src/fields.rt:61:9
+-- src/fields.rt:77:9
 returns-6 : tie.Need-returns-6
 returns-6 c =
-    let a = c .before .before .before .before .before .before .before .before .before .before .before .args in
+    let start = c .before .before .before .before .before .before .before .before .before .before .before .before in
+    let a = start .args in
     let s = now (a .s) in
     simp (
-      eq-eqb (lengthAt s 0) 4 (omega arith),
-      eq-eqb (getD s 3 0) 1 (omega arith),
-      le-ltb (headK s) 2 (omega arith),
-      le-ltb 6 (headK s) (omega arith),
-      le-ltb (headI s) 1 (omega arith),
-      lt-ltb 64 (headI s) (omega arith),
+      eq-eqb (lengthAt s 0) (a .form .size) (omega arith),
+      eq-eqb (getD s versionAt 0) version (omega arith),
+      le-ltb (headK s) leastK (omega arith),
+      le-ltb mostK (headK s) (omega arith),
+      le-ltb (headI s) leastInputs (omega arith),
+      lt-ltb mostInputs (headI s) (omega arith),
     )
 
--- src/fields.rt:63:23
-byte-at-requires-4 : tie.Need-byte-at-requires-4
-byte-at-requires-4 c κs = search needs
+-- src/fields.rt:79:26
+small-at-requires : tie.Need-small-at-requires
+small-at-requires c κs = search needs
 
--- src/fields.rt:63:14
-add-if7 : tie.Need-add-if7
-add-if7 c = search needs
+-- src/fields.rt:79:17
+add-nodes : tie.Need-add-nodes
+add-nodes c = search needs
 
--- src/fields.rt:64:9
+-- src/fields.rt:81:9
 returns-7 : tie.Need-returns-7
 returns-7 c =
-    let a = c .before .before .before .before .before .before .before .before .before .before .before .before .before .args in
+    let start = c .before .before .before .before .before .before .before .before .before .before .before .before
+    .before .before .before in
+    let a = start .args in
     let s = now (a .s) in
     simp (
-      eq-eqb (lengthAt s 0) 4 (omega arith),
-      eq-eqb (getD s 3 0) 1 (omega arith),
-      le-ltb (headK s) 2 (omega arith),
-      le-ltb 6 (headK s) (omega arith),
-      le-ltb (headI s) 1 (omega arith),
-      le-ltb 64 (headI s) (omega arith),
-      lt-ltb 192 (headI s + headG s) (omega arith),
+      eq-eqb (lengthAt s 0) (a .form .size) (omega arith),
+      eq-eqb (getD s versionAt 0) version (omega arith),
+      le-ltb (headK s) leastK (omega arith),
+      le-ltb mostK (headK s) (omega arith),
+      le-ltb (headI s) leastInputs (omega arith),
+      le-ltb mostInputs (headI s) (omega arith),
+      lt-ltb (headI s + gatesIn (a .form) s) (a .form .least) (omega arith),
     )
 
--- src/fields.rt:39:1
+-- src/fields.rt:84:9
 returns-8 : tie.Need-returns-8
 returns-8 c =
-    let a = c .before .before .before .before .before .before .before .before .before .before .before .before .before .args in
+    let start = c .before .before .before .before .before .before .before .before .before .before .before .before
+    .before .before .before .before .before in
+    let a = start .args in
     let s = now (a .s) in
     simp (
-      eq-eqb (lengthAt s 0) 4 (omega arith),
-      eq-eqb (getD s 3 0) 1 (omega arith),
-      le-ltb (headK s) 2 (omega arith),
-      le-ltb 6 (headK s) (omega arith),
-      le-ltb (headI s) 1 (omega arith),
-      le-ltb 64 (headI s) (omega arith),
-      le-ltb 192 (headI s + headG s) (omega arith),
+      eq-eqb (lengthAt s 0) (a .form .size) (omega arith),
+      eq-eqb (getD s versionAt 0) version (omega arith),
+      le-ltb (headK s) leastK (omega arith),
+      le-ltb mostK (headK s) (omega arith),
+      le-ltb (headI s) leastInputs (omega arith),
+      le-ltb mostInputs (headI s) (omega arith),
+      le-ltb (headI s + gatesIn (a .form) s) (a .form .least) (omega arith),
+      lt-ltb (a .form .most) (headI s + gatesIn (a .form) s) (omega arith),
+    )
+
+-- src/fields.rt:54:1
+returns-9 : tie.Need-returns-9
+returns-9 c =
+    let start = c .before .before .before .before .before .before .before .before .before .before .before .before
+    .before .before .before .before .before in
+    let a = start .args in
+    let s = now (a .s) in
+    simp (
+      eq-eqb (lengthAt s 0) (a .form .size) (omega arith),
+      eq-eqb (getD s versionAt 0) version (omega arith),
+      le-ltb (headK s) leastK (omega arith),
+      le-ltb mostK (headK s) (omega arith),
+      le-ltb (headI s) leastInputs (omega arith),
+      le-ltb mostInputs (headI s) (omega arith),
+      le-ltb (headI s + gatesIn (a .form) s) (a .form .least) (omega arith),
+      le-ltb (a .form .most) (headI s + gatesIn (a .form) s) (omega arith),
     )
 
 pub head-value-spec : {M : Type 1} → statement M
@@ -146,7 +176,8 @@ head-value-spec =
     returns-4
     returns-5
     returns-6
-    byte-at-requires-4
-    add-if7
+    small-at-requires
+    add-nodes
     returns-7
-    returns-8)
+    returns-8
+    returns-9)

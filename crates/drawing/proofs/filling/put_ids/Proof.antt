@@ -1,78 +1,69 @@
--- `put_ids` meets its contract: the ids passed stand in the array.
+-- `put_ids` meets its contract: storing the ids from here on makes what storing all of them does.
 use native.Mathlib.Omega.{arith}
-use Prim.Native.Nat.{ℕ, _≤_, _-_, _+_}
-use mathlib.Core.Path.{_≡_, refl, ap, _∙_}
-use mathlib.Core.List.{List}
-use lib.ListN.{length, set, take, drop, length-set}
-use lib.Seq.{sets}
-use denote.Ref.{now}
-use Rattle.drawing.proofs.Stores.{sets-of-part}
+use mathlib.Core.Path.{refl}
+use Rattle.drawing.proofs.Ids.{one-less}
+use Rattle.drawing.proofs.Filled.{IdsLeft, ids-turn, ids-all}
 use Rattle.drawing.proofs.filling.put_ids.Statement.{statement}
 use Rattle.drawing.proofs.filling.put_ids.Tie as tie
 
 abbrev Inv-loop : tie.InvT-loop
-Inv-loop s at count fan₀ to i₀ fan i = (i ≤ count) × (length fan ≡ length fan₀) × (fan ≡ sets fan₀ to (take i (drop at s)))
+Inv-loop s at width count ids₀ to next₀ place₀ left₀ ids next place left =
+    IdsLeft s at width count ids₀ to ids next place left
 
 abbrev μ-loop : tie.MeasureT-loop
-μ-loop s at count fan₀ to i₀ fan i = count - i
+μ-loop s at width count ids₀ to next₀ place₀ left₀ ids next place left = left
 
--- src/filling.rt:33:5
+-- src/filling.rt:46:5
 loop-holds : tie.Need-loop-holds Inv-loop μ-loop
-loop-holds c = (omega arith, refl, refl)
+loop-holds c = record { inside = omega arith; room = omega arith; size = refl; stored = refl }
 
--- src/filling.rt:34:34
-add-byte-at : tie.Need-add-byte-at Inv-loop μ-loop
-add-byte-at c = omega arith
+-- src/filling.rt:47:22
+small-at-requires : tie.Need-small-at-requires Inv-loop μ-loop
+small-at-requires c κs =
+    let start = c .before .before .before .before in
+    (start .pre .0, omega (arith, one-less (c .before .loop .left) (start .args .width) (omega arith)))
 
--- src/filling.rt:34:23
-byte-at-requires : tie.Need-byte-at-requires Inv-loop μ-loop
-byte-at-requires c κs = omega arith
+-- src/filling.rt:47:22
+cast-ids : tie.Need-cast-ids Inv-loop μ-loop
+cast-ids c = omega (arith, c .small-at .ensures .fits)
 
--- src/filling.rt:34:23
-cast-fan : tie.Need-cast-fan Inv-loop μ-loop
-cast-fan c = omega arith
+-- src/filling.rt:47:9
+mul-ids : tie.Need-mul-ids Inv-loop μ-loop
+mul-ids c = omega arith
 
--- src/filling.rt:34:13
-add-fan : tie.Need-add-fan Inv-loop μ-loop
-add-fan c = omega arith
+-- src/filling.rt:47:9
+slice-write-ids : tie.Need-slice-write-ids Inv-loop μ-loop
+slice-write-ids c = omega arith
 
--- src/filling.rt:34:9
-mul-fan : tie.Need-mul-fan Inv-loop μ-loop
-mul-fan c = omega arith
+-- src/filling.rt:48:9
+add-next : tie.Need-add-next Inv-loop μ-loop
+add-next c =
+    let start = c .before .before .before .before .before in
+    omega (arith, one-less (c .before .before .loop .left) (start .args .width) (omega arith))
 
--- src/filling.rt:34:9
-slice-write-fan : tie.Need-slice-write-fan Inv-loop μ-loop
-slice-write-fan c = omega arith
+-- src/filling.rt:49:9
+add-place : tie.Need-add-place Inv-loop μ-loop
+add-place c = omega arith
 
--- src/filling.rt:35:9
-add-i : tie.Need-add-i Inv-loop μ-loop
-add-i c = omega arith
+-- src/filling.rt:50:9
+sub-left : tie.Need-sub-left Inv-loop μ-loop
+sub-left c = omega arith
 
--- src/filling.rt:33:5
+-- src/filling.rt:46:5
 loop-less : tie.Need-loop-less Inv-loop μ-loop
 loop-less c = omega arith
 
--- src/filling.rt:33:5
+-- src/filling.rt:46:5
 loop-again : tie.Need-loop-again Inv-loop μ-loop
-loop-again c =
-    let l = c .before .before .loop .inv in
-    let a = c .before .before .before .before .before .args in (
-      omega arith,
-      simp length-set (l .1),
-      ap (λ (x : List ℕ). set x (a .to + c .before .before .loop .i) (c .byte-at .result)) (l .2)
-          ∙ sets-of-part (now (a .s)) (now (a .fan)) (a .at) (a .to) (c .before .before .loop .i) (c .byte-at .result) (omega arith) (c .byte-at .ensures .byte),
-    )
+loop-again c = ids-turn (c .before .before .loop .inv) (omega arith) (c .small-at .ensures .number)
 
--- src/filling.rt:27:1
+-- src/filling.rt:37:1
 same-length : tie.Need-same-length Inv-loop μ-loop
-same-length c = c .before .loop .inv .1
+same-length c = c .before .loop .inv .size
 
--- src/filling.rt:27:1
+-- src/filling.rt:37:1
 returns : tie.Need-returns Inv-loop μ-loop
-returns c =
-    let a = c .before .before .before .before .args in
-    let all : c .before .loop .i ≡ a .count = omega arith in
-    c .before .loop .inv .2 ∙ ap (λ (i : ℕ). sets (now (a .fan)) (a .to) (take i (drop (a .at) (now (a .s))))) all
+returns c = ids-all (c .before .loop .inv) (omega arith)
 
 pub put-ids-spec : {M : Type 1} → statement M
 put-ids-spec =
@@ -81,13 +72,13 @@ put-ids-spec =
     Inv-loop
     μ-loop
     loop-holds
-    add-byte-at
-    byte-at-requires
-    cast-fan
-    add-fan
-    mul-fan
-    slice-write-fan
-    add-i
+    small-at-requires
+    cast-ids
+    mul-ids
+    slice-write-ids
+    add-next
+    add-place
+    sub-left
     loop-less
     loop-again
     same-length

@@ -1,84 +1,87 @@
 -- `read_gate` meets its contract: a sound gate fits, and is stored; a refused one stores nothing.
 use native.Mathlib.Omega.{arith}
-use mathlib.Core.Path.{_≡_, sym, _∙_}
+use mathlib.Core.Path.{sym, _∙_}
 use denote.Ref.{now}
-use Rattle.drawing.specs.declared.Verdict.the-variants.{Sound}
-use Rattle.drawing.specs.Fields.{gateVerdict}
 use Rattle.drawing.proofs.SoundFields.{gate-sound}
 use borrow.Author.Needs.{needs}
 use Rattle.drawing.proofs.filling.read_gate.Statement.{statement}
 use Rattle.drawing.proofs.filling.read_gate.Tie as tie
 
--- src/filling.rt:84:9
+-- src/filling.rt:94:9
 gate-ruling-requires : tie.Need-gate-ruling-requires
 gate-ruling-requires c κs = search needs
 
--- src/filling.rt:86:26
+-- src/filling.rt:96:26
 enum-known-ruled : tie.Need-enum-known-ruled
 enum-known-ruled c = search needs
 
--- src/filling.rt:88:35
+-- src/filling.rt:98:41
 enum-told : tie.Need-enum-told
 enum-told c = search needs
 
--- src/filling.rt:88:13
+-- src/filling.rt:98:13
 put-gate-requires : tie.Need-put-gate-requires
 put-gate-requires c κs =
-    let a = c .before .before .before .before .before .before .before .before .before .before .args in
-    let s = now (a .s) in
-    let ruled : gateVerdict s (a .at) (a .k .leaves) (a .nodes) ≡ Sound = sym (c .before .before .before .before .before .gate-ruling .ensures) ∙ c .before .before .before .enum-told .given .1 in
-    let sound = gate-sound s (a .at) (a .k .leaves) (a .nodes) (c .before .before .before .before .before .before .before .before .before .before .pre .inside) ruled in
-    record { whole = omega arith; few = omega arith; fan = c .before .before .before .before .before .before .before .before .before .before .pre .fan; count = c .before .before .before .before .before .before .before .before .before .before .pre .count; rows = c .before .before .before .before .before .before .before .before .before .before .pre .rows }
+    let after-gate-ruling = c .before .before .before .before in
+    let start = after-gate-ruling .before .before .before .before in
+    let a = start .args in
+    let p = start .pre in
+    let ruled = sym (after-gate-ruling .gate-ruling .ensures) ∙ c .before .before .enum-told .given .1 in
+    let sound = gate-sound (a .form) (now (a .s)) (start .pre .formed) (a .at) (a .numbers .k .leaves)
+    (a .numbers .nodes) (p .inside) ruled in
+    record { formed = p .formed; whole = omega arith; few = omega arith; fanins = p .fanins; rows = p .rows }
 
--- src/filling.rt:89:23
-add-t19 : tie.Need-add-t19
-add-t19 c = search needs
+-- src/filling.rt:99:23
+add-t16 : tie.Need-add-t16
+add-t16 c = search needs
 
--- src/filling.rt:89:32
+-- src/filling.rt:99:36
 length-at-requires : tie.Need-length-at-requires
 length-at-requires c κs =
-    let a = c .before .before .before .before .before .before .before .before .before .before .before .before .before .before .before .before .before .args in
-    let s = now (a .s) in
-    let ruled : gateVerdict s (a .at) (a .k .leaves) (a .nodes) ≡ Sound = sym (c .before .before .before .before .before .before .before .before .before .before .before .before .gate-ruling .ensures) ∙ c .before .before .before .before .before .before .before .before .before .before .enum-told .given .1 in
-    let sound = gate-sound s (a .at) (a .k .leaves) (a .nodes) (c .before .before .before .before .before .before .before .before .before .before .before .before .before .before .before .before .before .pre .inside) ruled in
+    let after-enum-told = c .before .before .before .before .before .before .before in
+    let after-gate-ruling = after-enum-told .before .before in
+    let start = after-gate-ruling .before .before .before .before in
+    let a = start .args in
+    let ruled = sym (after-gate-ruling .gate-ruling .ensures) ∙ after-enum-told .enum-told .given .1 in
+    let sound = gate-sound (a .form) (now (a .s)) (start .pre .formed) (a .at) (a .numbers .k .leaves)
+    (a .numbers .nodes) (start .pre .inside) ruled in
     omega arith
 
--- src/filling.rt:89:23
-add-t21 : tie.Need-add-t21
-add-t21 c =
-    let a = c .before .before .before .before .before .before .before .before .before .before .before .before .before .before .before .before .before .before .args in
-    let s = now (a .s) in
-    let ruled : gateVerdict s (a .at) (a .k .leaves) (a .nodes) ≡ Sound = sym (c .before .before .before .before .before .before .before .before .before .before .before .before .before .gate-ruling .ensures) ∙ c .before .before .before .before .before .before .before .before .before .before .before .enum-told .given .1 in
-    let sound = gate-sound s (a .at) (a .k .leaves) (a .nodes) (c .before .before .before .before .before .before .before .before .before .before .before .before .before .before .before .before .before .before .pre .inside) ruled in
+-- src/filling.rt:99:23
+add-t18 : tie.Need-add-t18
+add-t18 c =
+    let after-enum-told = c .before .before .before .before .before .before .before .before in
+    let after-gate-ruling = after-enum-told .before .before in
+    let start = after-gate-ruling .before .before .before .before in
+    let a = start .args in
+    let ruled = sym (after-gate-ruling .gate-ruling .ensures) ∙ after-enum-told .enum-told .given .1 in
+    let sound = gate-sound (a .form) (now (a .s)) (start .pre .formed) (a .at) (a .numbers .k .leaves)
+    (a .numbers .nodes) (start .pre .inside) ruled in
     omega (arith, c .length-at .ensures)
 
--- src/filling.rt:71:1
+-- src/filling.rt:81:1
 returns : tie.Need-returns
 returns c =
-    let a = c .before .before .before .before .before .before .before .before .args in
-    let ruled = sym (c .before .before .before .gate-ruling .ensures) ∙ c .before .ruled .given .1 in
+    let after-gate-ruling = c .before .before .before in
+    let ruled = sym (after-gate-ruling .gate-ruling .ensures) ∙ c .before .ruled .given .1 in
     record { reply = rw ruled; lines = rw ruled }
 
--- src/filling.rt:71:1
+-- src/filling.rt:81:1
 same-length : tie.Need-same-length
 same-length c = search needs
 
--- src/filling.rt:71:1
+-- src/filling.rt:81:1
 same-length-2 : tie.Need-same-length-2
 same-length-2 c = search needs
 
--- src/filling.rt:71:1
-same-length-3 : tie.Need-same-length-3
-same-length-3 c = search needs
-
--- src/filling.rt:71:1
+-- src/filling.rt:81:1
 returns-2 : tie.Need-returns-2
 returns-2 c =
-    let a = c .before .before .before .before .before .before .before .before .before .before .before .before .before .before .before .before .before .before .args in
-    let s = now (a .s) in
-    let ruled : gateVerdict s (a .at) (a .k .leaves) (a .nodes) ≡ Sound = sym (c .before .before .before .before .before .before .before .before .before .before .before .before .before .gate-ruling .ensures) ∙ c .before .before .before .before .before .before .before .before .before .before .before .enum-told .given .1 in
-    let sound = gate-sound s (a .at) (a .k .leaves) (a .nodes) (c .before .before .before .before .before .before .before .before .before .before .before .before .before .before .before .before .before .before .pre .inside) ruled in
-    record { reply = rw (ruled, c .length-at .ensures); lines = rw ruled (c .before .before .before .before .before .before .before .put-gate .ensures) }
+    let after-put-gate = c .before .before .before .before .before in
+    let after-enum-told = after-put-gate .before .before .before in
+    let after-gate-ruling = after-enum-told .before .before in
+    let ruled = sym (after-gate-ruling .gate-ruling .ensures) ∙ after-enum-told .enum-told .given .1 in
+    record { reply = rw (ruled, c .length-at .ensures); lines = rw ruled (after-put-gate .put-gate .ensures) }
 
 pub read-gate-spec : {M : Type 1} → statement M
 read-gate-spec =
@@ -88,11 +91,10 @@ read-gate-spec =
     enum-known-ruled
     enum-told
     put-gate-requires
-    add-t19
+    add-t16
     length-at-requires
-    add-t21
+    add-t18
     returns
     same-length
     same-length-2
-    same-length-3
     returns-2)

@@ -1,23 +1,31 @@
--- `add_path` meets its contract: the walk back keeps a flow with one path more, whose start is loose until it is an input.
-use borrow.Author.Needs.{needs}
+-- `add_path` meets its contract: the walk back keeps a flow with one path more, whose start is loose until it is an
+-- input.
 use native.Mathlib.Omega.{arith}
-use mathlib.Core.Path.{refl, sym, subst, _∙_}
-use denote.Ref.{now}
-use Rattle.flow.specs.Turns.{at}
-use Rattle.flow.specs.Augments.{startsOf, FlowIn, RoundDone}
+use mathlib.Core.Path.{refl, subst, _∙_}
+use Rattle.storage.specs.Entries.{at}
+use Rattle.storage.proofs.Clears.{beyond-then}
+use Rattle.flow.specs.Links.{insIn}
+use Rattle.flow.specs.Augments.{FlowIn, RoundDone}
 use Rattle.flow.proofs.Sweeping.{sought-end, sought-nothing}
-use Rattle.flow.proofs.Augmented.{Augmenting, round-search, augment-asked, augment-starts, augment-adds, parent-node, start-known, step-known, step-asked, step-falls, augment-step, augment-ends}
+use Rattle.flow.proofs.Augmented.{Augmenting, round-search, flow-kept, augment-asked, augment-starts}
+use Rattle.flow.proofs.Augmented.{augment-adds, start-cell}
+use Rattle.flow.proofs.Augmented.{parent-node, step-cell, step-asked, step-falls, augment-step, augment-ends}
+use denote.Ref.{now}
+use borrow.Author.Needs.{needs}
 use Rattle.flow.proofs.augmenting.add_path.Statement.{statement}
 use Rattle.flow.proofs.augmenting.add_path.Tie as tie
 
 abbrev Inv-loop : tie.InvT-loop
-Inv-loop fan count inputs nodes order area ends next₀ prev₀ ins outs parent loose₀ from₀ next prev loose from = Augmenting inputs nodes fan count area ends ins outs parent (startsOf nodes prev₀) next prev loose from
+Inv-loop numbers fanins order roles links₀ loose₀ from₀ links loose from =
+    Augmenting (numbers .inputs) (numbers .nodes) fanins roles links₀ links loose from
 
 abbrev μ-loop : tie.MeasureT-loop
-μ-loop fan count inputs nodes order area ends next₀ prev₀ ins outs parent loose₀ from₀ next prev loose from = at ins loose
+μ-loop numbers fanins order roles links₀ loose₀ from₀ links loose from = at (insIn (numbers .nodes) links) loose
 
 search-requires : tie.Need-search-requires Inv-loop μ-loop
-search-requires c κs = round-search (c .before .before .before .before .before .before .before .before .before .before .before .before .before .before .pre)
+search-requires c κs =
+    let start = c .before .before .before .before .before in
+    round-search (start .pre)
 
 enum-known-sought : tie.Need-enum-known-sought Inv-loop μ-loop
 enum-known-sought c = search needs
@@ -26,61 +34,126 @@ enum-told : tie.Need-enum-told Inv-loop μ-loop
 enum-told c = search needs
 
 same-length : tie.Need-same-length Inv-loop μ-loop
-same-length c = refl
-
-same-length-2 : tie.Need-same-length-2 Inv-loop μ-loop
-same-length-2 c = sought-nothing (c .before .before .before .before .before .before .before .before .search .ensures) (c .enum-told .given .1) .1 .in-long ∙ sym ((c .before .before .before .before .before .before .before .before .before .before .before .before .before .before .before .before .before .before .before .before .before .before .before .pre) .in-long)
-
-same-length-3 : tie.Need-same-length-3 Inv-loop μ-loop
-same-length-3 c = sought-nothing (c .before .before .before .before .before .before .before .before .search .ensures) (c .enum-told .given .1) .1 .out-long ∙ sym ((c .before .before .before .before .before .before .before .before .before .before .before .before .before .before .before .before .before .before .before .before .before .before .before .pre) .out-long)
-
-same-length-4 : tie.Need-same-length-4 Inv-loop μ-loop
-same-length-4 c = sought-nothing (c .before .before .before .before .before .before .before .before .search .ensures) (c .enum-told .given .1) .1 .parent-long ∙ sym ((c .before .before .before .before .before .before .before .before .before .before .before .before .before .before .before .before .before .before .before .before .before .before .before .pre) .parent-long)
+same-length c =
+    let after-search = c .before .before .before .before in
+    after-search .search .ensures .1 .rest .size
 
 returns : tie.Need-returns Inv-loop μ-loop
-returns c = let n = sought-nothing (c .before .before .before .before .before .before .before .before .search .ensures) (c .enum-told .given .1) in RoundDone.full refl refl refl (n .0) (n .1) (n .2)
+returns c =
+    let after-search = c .before .before .before .before in
+    let kept = after-search .search .ensures .1 in
+    let n = sought-nothing (after-search .search .ensures .0) (c .enum-told .given .1) in
+    (RoundDone.full (n .0) refl kept (n .1) (n .2), kept .rest)
 
 free-requires : tie.Need-free-requires Inv-loop μ-loop
-free-requires c κs = augment-asked ((c .before .before .before .before .before .before .before .before .before .before .before .before .before .before .before .before .before .before .before .before .before .before .before .before .before .before .pre) .field .ground) ((c .before .before .before .before .before .before .before .before .before .before .before .before .before .before .before .before .before .before .before .before .before .before .before .before .before .before .pre) .flow) (sought-end (c .before .before .before .before .before .before .before .before .before .before .before .search .ensures) (c .before .before .before .sought .given .1))
+free-requires c κs =
+    let after-search = c .before .before .before .before .before .before in
+    let start = after-search .before .before .before .before .before .before in
+    let at-sought = c .before .before in
+    let g = start .pre .field .ground in
+    let flow = flow-kept (start .pre .flow) (after-search .search .ensures .1) in
+    let end = sought-end (after-search .search .ensures .0) (at-sought .sought .given .1) in
+    augment-asked g flow end
 
 at-requires : tie.Need-at-requires Inv-loop μ-loop
-at-requires c κs = start-known ((c .before .before .before .before .before .before .before .before .before .before .before .before .before .before .before .before .before .before .before .before .before .before .before .before .before .before .before .before .before .before .before .before .pre) .field .ground) ((c .before .before .before .before .before .before .before .before .before .before .before .before .before .before .before .before .before .before .before .before .before .before .before .before .before .before .before .before .before .before .before .before .pre) .flow) (sought-end (c .before .before .before .before .before .before .before .before .before .before .before .before .before .before .before .before .before .search .ensures) (c .before .before .before .before .before .before .before .before .before .sought .given .1)) (c .before .before .before .before .before .free .ensures)
+at-requires c κs =
+    let after-free = c .before .before .before in
+    let after-sought = after-free .before .before .before in
+    let after-search = after-sought .before .before .before .before in
+    let start = after-search .before .before .before .before .before .before in
+    let g = start .pre .field .ground in
+    let flow = flow-kept (start .pre .flow) (after-search .search .ensures .1) in
+    let end = sought-end (after-search .search .ensures .0) (after-sought .sought .given .1) in
+    start-cell g flow end (after-free .free .ensures)
 
 loop-holds : tie.Need-loop-holds Inv-loop μ-loop
-loop-holds c = augment-starts ((c .before .before .before .before .before .before .before .before .before .before .before .before .before .before .before .before .before .before .before .before .before .before .before .before .before .before .before .before .before .before .before .before .before .pre) .field .ground) ((c .before .before .before .before .before .before .before .before .before .before .before .before .before .before .before .before .before .before .before .before .before .before .before .before .before .before .before .before .before .before .before .before .before .pre) .flow) (sought-end (c .before .before .before .before .before .before .before .before .before .before .before .before .before .before .before .before .before .before .search .ensures) (c .before .before .before .before .before .before .before .before .before .before .sought .given .1)) (c .before .before .before .before .before .before .free .ensures) (c .before .before .before .before .before .before .free .kept .0) (c .before .before .before .before .before .before .free .kept .1 .0) (c .at .ensures)
+loop-holds c =
+    let after-free = c .before .before .before .before in
+    let after-sought = after-free .before .before .before in
+    let after-search = after-sought .before .before .before .before in
+    let start = after-search .before .before .before .before .before .before in
+    let g = start .pre .field .ground in
+    let flow = flow-kept (start .pre .flow) (after-search .search .ensures .1) in
+    let end = sought-end (after-search .search .ensures .0) (after-sought .sought .given .1) in
+    augment-starts g flow end (after-free .free .ensures) (c .at .ensures)
 
-sub-t36 : tie.Need-sub-t36 Inv-loop μ-loop
-sub-t36 c = omega (arith, parent-node ((c .before .before .before .before .before .before .before .before .before .before .before .before .before .before .before .before .before .before .before .before .before .before .before .before .before .before .before .before .before .before .before .before .before .before .before .pre) .field .ground) (c .before .loop .inv) (c .loop-test .taken))
+sub-t20 : tie.Need-sub-t20 Inv-loop μ-loop
+sub-t20 c =
+    let start = c .before .before .before .before .before .before .before .before .before .before .before .before
+    .before .before .before .before .before .before .before in
+    let g = start .pre .field .ground in
+    let inv = c .before .loop .inv in
+    omega (arith, parent-node g inv (c .loop-test .taken))
 
 step-back-requires : tie.Need-step-back-requires Inv-loop μ-loop
-step-back-requires c κs = step-asked ((c .before .before .before .before .before .before .before .before .before .before .before .before .before .before .before .before .before .before .before .before .before .before .before .before .before .before .before .before .before .before .before .before .before .before .before .before .before .pre) .field .ground) (c .before .before .before .loop .inv) (let high = parent-node ((c .before .before .before .before .before .before .before .before .before .before .before .before .before .before .before .before .before .before .before .before .before .before .before .before .before .before .before .before .before .before .before .before .before .before .before .before .before .pre) .field .ground) (c .before .before .before .loop .inv) (c .before .before .loop-test .taken) in omega arith)
+step-back-requires c κs =
+    let start = c .before .before .before .before .before .before .before .before .before .before .before .before
+    .before .before .before .before .before .before .before .before in
+    let at-loop = c .before .before in
+    let g = start .pre .field .ground in
+    let inv = at-loop .loop .inv in
+    step-asked g inv (parent-node g inv (c .before .loop-test .taken))
 
 at-requires-2 : tie.Need-at-requires-2 Inv-loop μ-loop
-at-requires-2 c κs = step-known ((c .before .before .before .before .before .before .before .before .before .before .before .before .before .before .before .before .before .before .before .before .before .before .before .before .before .before .before .before .before .before .before .before .before .before .before .before .before .before .before .before .before .before .before .pre) .field .ground) (c .before .before .before .before .before .before .before .before .before .loop .inv) (let high = parent-node ((c .before .before .before .before .before .before .before .before .before .before .before .before .before .before .before .before .before .before .before .before .before .before .before .before .before .before .before .before .before .before .before .before .before .before .before .before .before .before .before .before .before .before .before .pre) .field .ground) (c .before .before .before .before .before .before .before .before .before .loop .inv) (c .before .before .before .before .before .before .before .before .loop-test .taken) in omega arith) (c .before .before .before .before .before .step-back .ensures)
+at-requires-2 c κs =
+    let after-step-back = c .before .before .before in
+    let in-loop = after-step-back .before .before in
+    let at-loop = in-loop .before in
+    let start = at-loop .before .before .before .before .before .before .before .before .before .before .before .before
+    .before .before .before .before .before .before in
+    let g = start .pre .field .ground in
+    let inv = at-loop .loop .inv in
+    step-cell g inv (parent-node g inv (in-loop .loop-test .taken)) (after-step-back .step-back .ensures)
 
 loop-less : tie.Need-loop-less Inv-loop μ-loop
-loop-less c = step-falls ((c .before .before .before .before .before .before .before .before .before .before .before .before .before .before .before .before .before .before .before .before .before .before .before .before .before .before .before .before .before .before .before .before .before .before .before .before .before .before .before .before .before .before .before .before .pre) .field .ground) (c .before .before .before .before .before .before .before .before .before .before .loop .inv) (let high = parent-node ((c .before .before .before .before .before .before .before .before .before .before .before .before .before .before .before .before .before .before .before .before .before .before .before .before .before .before .before .before .before .before .before .before .before .before .before .before .before .before .before .before .before .before .before .before .pre) .field .ground) (c .before .before .before .before .before .before .before .before .before .before .loop .inv) (c .before .before .before .before .before .before .before .before .before .loop-test .taken) in omega arith) (c .before .before .before .before .before .before .step-back .ensures)
+loop-less c =
+    let after-step-back = c .before .before .before .before in
+    let in-loop = after-step-back .before .before in
+    let at-loop = in-loop .before in
+    let start = at-loop .before .before .before .before .before .before .before .before .before .before .before .before
+    .before .before .before .before .before .before in
+    let g = start .pre .field .ground in
+    let inv = at-loop .loop .inv in
+    step-falls g inv (parent-node g inv (in-loop .loop-test .taken)) (after-step-back .step-back .ensures)
 
 loop-again : tie.Need-loop-again Inv-loop μ-loop
-loop-again c = augment-step ((c .before .before .before .before .before .before .before .before .before .before .before .before .before .before .before .before .before .before .before .before .before .before .before .before .before .before .before .before .before .before .before .before .before .before .before .before .before .before .before .before .before .before .before .before .pre) .field .ground) (c .before .before .before .before .before .before .before .before .before .before .loop .inv) (let high = parent-node ((c .before .before .before .before .before .before .before .before .before .before .before .before .before .before .before .before .before .before .before .before .before .before .before .before .before .before .before .before .before .before .before .before .before .before .before .before .before .before .before .before .before .before .before .before .pre) .field .ground) (c .before .before .before .before .before .before .before .before .before .before .loop .inv) (c .before .before .before .before .before .before .before .before .before .loop-test .taken) in omega arith) (c .before .before .before .before .before .before .step-back .ensures) (c .before .before .before .before .before .before .step-back .kept .0) (c .before .before .before .before .before .before .step-back .kept .1 .0) (c .at2 .ensures)
+loop-again c =
+    let after-step-back = c .before .before .before .before in
+    let in-loop = after-step-back .before .before in
+    let at-loop = in-loop .before in
+    let start = at-loop .before .before .before .before .before .before .before .before .before .before .before .before
+    .before .before .before .before .before .before in
+    let g = start .pre .field .ground in
+    let inv = at-loop .loop .inv in
+    augment-step g inv (parent-node g inv (in-loop .loop-test .taken)) (after-step-back .step-back .ensures)
+    (c .at2 .ensures)
 
-same-length-5 : tie.Need-same-length-5 Inv-loop μ-loop
-same-length-5 c = c .before .loop .inv .next-long ∙ sym ((c .before .before .before .before .before .before .before .before .before .before .before .before .before .before .before .before .before .before .before .before .before .before .before .before .before .before .before .before .before .before .before .before .before .before .before .pre) .flow .next-long)
-
-same-length-6 : tie.Need-same-length-6 Inv-loop μ-loop
-same-length-6 c = c .before .loop .inv .prev-long ∙ sym ((c .before .before .before .before .before .before .before .before .before .before .before .before .before .before .before .before .before .before .before .before .before .before .before .before .before .before .before .before .before .before .before .before .before .before .before .pre) .flow .prev-long)
-
-same-length-7 : tie.Need-same-length-7 Inv-loop μ-loop
-same-length-7 c = (sought-end (c .before .before .before .before .before .before .before .before .before .before .before .before .before .before .before .before .before .before .before .before .search .ensures) (c .before .before .before .before .before .before .before .before .before .before .before .before .sought .given .1)) .searched .in-long ∙ sym ((c .before .before .before .before .before .before .before .before .before .before .before .before .before .before .before .before .before .before .before .before .before .before .before .before .before .before .before .before .before .before .before .before .before .before .before .pre) .in-long)
-
-same-length-8 : tie.Need-same-length-8 Inv-loop μ-loop
-same-length-8 c = (sought-end (c .before .before .before .before .before .before .before .before .before .before .before .before .before .before .before .before .before .before .before .before .search .ensures) (c .before .before .before .before .before .before .before .before .before .before .before .before .sought .given .1)) .searched .out-long ∙ sym ((c .before .before .before .before .before .before .before .before .before .before .before .before .before .before .before .before .before .before .before .before .before .before .before .before .before .before .before .before .before .before .before .before .before .before .before .pre) .out-long)
-
-same-length-9 : tie.Need-same-length-9 Inv-loop μ-loop
-same-length-9 c = (sought-end (c .before .before .before .before .before .before .before .before .before .before .before .before .before .before .before .before .before .before .before .before .search .ensures) (c .before .before .before .before .before .before .before .before .before .before .before .before .sought .given .1)) .searched .parent-long ∙ sym ((c .before .before .before .before .before .before .before .before .before .before .before .before .before .before .before .before .before .before .before .before .before .before .before .before .before .before .before .before .before .before .before .before .before .before .before .pre) .parent-long)
+same-length-2 : tie.Need-same-length-2 Inv-loop μ-loop
+same-length-2 c =
+    let after-free = c .before .before .before .before .before .before in
+    let after-search = after-free .before .before .before .before .before .before .before in
+    c .before .loop .inv .rest .size
+    ∙ after-free .free .ensures .kept .rest .size
+    ∙ after-search .search .ensures .1 .rest .size
 
 returns-2 : tie.Need-returns-2 Inv-loop μ-loop
-returns-2 c = let end = (sought-end (c .before .before .before .before .before .before .before .before .before .before .before .before .before .before .before .before .before .before .before .before .search .ensures) (c .before .before .before .before .before .before .before .before .before .before .before .before .sought .given .1)) in let a = c .before .before .before .before .before .before .before .before .before .before .before .before .before .before .before .before .before .before .before .before .before .before .before .before .before .before .before .before .before .before .before .before .before .before .before .args in RoundDone.more refl (subst (FlowIn (a .inputs) (a .nodes) (now (a .fan)) (now (a .count)) (now (a .area)) (now (a .ends)) (c .before .loop .next) (c .before .loop .prev)) (augment-adds ((c .before .before .before .before .before .before .before .before .before .before .before .before .before .before .before .before .before .before .before .before .before .before .before .before .before .before .before .before .before .before .before .before .before .before .before .pre) .field .ground) ((c .before .before .before .before .before .before .before .before .before .before .before .before .before .before .before .before .before .before .before .before .before .before .before .before .before .before .before .before .before .before .before .before .before .before .before .pre) .flow) end (c .before .before .before .before .before .before .before .before .free .last .0) (c .before .before .before .before .before .before .before .before .free .last .1 .0) (c .before .before .before .before .before .before .before .before .free .ensures)) (augment-ends ((c .before .before .before .before .before .before .before .before .before .before .before .before .before .before .before .before .before .before .before .before .before .before .before .before .before .before .before .before .before .before .before .before .before .before .before .pre) .field .ground) (c .before .loop .inv) (c .loop-test .left))) (end .searched .in-long) (end .searched .out-long) (end .searched .parent-long)
+returns-2 c =
+    let after-free = c .before .before .before .before .before .before in
+    let after-sought = after-free .before .before .before in
+    let after-search = after-sought .before .before .before .before in
+    let start = after-search .before .before .before .before .before .before in
+    let g = start .pre .field .ground in
+    let flow = flow-kept (start .pre .flow) (after-search .search .ensures .1) in
+    let end = sought-end (after-search .search .ensures .0) (after-sought .sought .given .1) in
+    let a = start .args in
+    let adds = augment-adds g flow end (after-free .free .ensures) in (
+      RoundDone.more refl
+          (subst
+          (FlowIn (a .numbers .inputs) (a .numbers .nodes) (now (a .fanins)) (now (a .roles)) (c .before .loop .links))
+          adds (augment-ends g (c .before .loop .inv) (c .loop-test .left))),
+      beyond-then (after-search .search .ensures .1 .rest)
+          (beyond-then (after-free .free .ensures .kept .rest) (c .before .loop .inv .rest)),
+    )
 
 pub add-path-spec : {M : Type 1} → statement M
 add-path-spec =
@@ -92,21 +165,14 @@ add-path-spec =
     enum-known-sought
     enum-told
     same-length
-    same-length-2
-    same-length-3
-    same-length-4
     returns
     free-requires
     at-requires
     loop-holds
-    sub-t36
+    sub-t20
     step-back-requires
     at-requires-2
     loop-less
     loop-again
-    same-length-5
-    same-length-6
-    same-length-7
-    same-length-8
-    same-length-9
+    same-length-2
     returns-2)

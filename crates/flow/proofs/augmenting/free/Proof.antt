@@ -1,10 +1,8 @@
 -- `free` meets its contract.
 use native.Mathlib.Omega.{arith}
-use Prim.Native.Nat.{_-_}
 use mathlib.Core.Path.{refl}
 use mathlib.Core.Logic.{inl, inr}
-use denote.Ref.{now}
-use Rattle.flow.proofs.Stores.{put-upd}
+use Rattle.flow.proofs.Columns.{both-stored}
 use Rattle.flow.proofs.Augmented.{no-sink-leads}
 use borrow.Author.Needs.{needs}
 use Rattle.flow.proofs.augmenting.free.Statement.{statement}
@@ -22,26 +20,45 @@ put-requires-2 c κs = search needs
 same-length : tie.Need-same-length
 same-length c = search needs
 
-same-length-2 : tie.Need-same-length-2
-same-length-2 c = search needs
-
 returns : tie.Need-returns
-returns c = record { out = put-upd (now (c .before .before .before .before .before .before .before .before .before .before .before .before .before .args .next)) (c .before .before .before .before .before .before .before .before .before .before .before .before .before .args .v .id) 1 ((c .before .before .before .before .before .before .before .before .before .before .before .before .before .pre) .next-low) (c .before .before .before .before .before .before .before .put .ensures); «in» = put-upd (now (c .before .before .before .before .before .before .before .before .before .before .before .before .before .args .prev)) (c .before .before .before .before .before .before .before .before .before .before .before .before .before .args .v .id) 1 ((c .before .before .before .before .before .before .before .before .before .before .before .before .before .pre) .prev-low) (c .before .before .put2 .ensures); freed = inl (omega arith, refl) }
+returns c =
+    let after-put = c .before .before .before .before .before .before .before in
+    let at-put2 = c .before .before in
+    let both = both-stored (after-put .put .ensures) (at-put2 .put2 .ensures) in
+    record {
+      stored = record { out = both .next; «in» = both .prev; freed = inl (omega arith, refl) };
+      kept = both .kept;
+    }
 
 sub-t15 : tie.Need-sub-t15
 sub-t15 c = search needs
 
 put-requires-3 : tie.Need-put-requires-3
-put-requires-3 c κs = (c .before .before .before .before .before .before .before .before .before .before .pre) .leads _ (no-sink-leads ((c .before .before .before .before .before .before .before .before .before .before .pre) .no-sink) (c .before .before .before .before .before .before .at .ensures) (c .before .if1 .left))
+put-requires-3 c κs =
+    let after-put = c .before .before .before .before in
+    let after-at = after-put .before .before in
+    let start = after-at .before .before .before in
+    let p = start .pre in
+    record {
+      small = p .small;
+      long = omega (arith, p .long, after-put .put .ensures .rest .size);
+      one-of-five = omega arith;
+      node = p .leads _ (no-sink-leads (p .no-sink) (after-at .at .ensures) (c .before .if1 .left));
+    }
 
-same-length-3 : tie.Need-same-length-3
-same-length-3 c = search needs
-
-same-length-4 : tie.Need-same-length-4
-same-length-4 c = search needs
+same-length-2 : tie.Need-same-length-2
+same-length-2 c = search needs
 
 returns-2 : tie.Need-returns-2
-returns-2 c = let leads = no-sink-leads ((c .before .before .before .before .before .before .before .before .before .before .before .before .before .pre) .no-sink) (c .before .before .before .before .before .before .before .before .before .at .ensures) (c .before .before .before .before .if1 .left) in record { out = put-upd (now (c .before .before .before .before .before .before .before .before .before .before .before .before .before .args .next)) (c .before .before .before .before .before .before .before .before .before .before .before .before .before .args .v .id) 1 ((c .before .before .before .before .before .before .before .before .before .before .before .before .before .pre) .next-low) (c .before .before .before .before .before .before .before .put .ensures); «in» = put-upd (now (c .before .before .before .before .before .before .before .before .before .before .before .before .before .args .prev)) (c .before .before .before .before .before .before .before .before .before .at .result - 2) 1 ((c .before .before .before .before .before .before .before .before .before .before .before .before .before .pre) .leads (c .before .before .before .before .before .before .before .before .before .at .result - 2) leads) (c .before .before .put3 .ensures); freed = inr leads }
+returns-2 c =
+    let else1 = c .before .before .before .before in
+    let after-put = else1 .before .before .before in
+    let after-at = after-put .before .before in
+    let start = after-at .before .before .before in
+    let at-put3 = c .before .before in
+    let both = both-stored (after-put .put .ensures) (at-put3 .put3 .ensures) in
+    let leads = no-sink-leads (start .pre .no-sink) (after-at .at .ensures) (else1 .if1 .left) in
+    record { stored = record { out = both .next; «in» = both .prev; freed = inr leads }; kept = both .kept }
 
 pub free-spec : {M : Type 1} → statement M
 free-spec =
@@ -51,10 +68,8 @@ free-spec =
     put-requires
     put-requires-2
     same-length
-    same-length-2
     returns
     sub-t15
     put-requires-3
-    same-length-3
-    same-length-4
+    same-length-2
     returns-2)

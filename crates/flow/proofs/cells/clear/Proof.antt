@@ -1,56 +1,55 @@
--- `clear` meets its contract: the entries passed are 0.
-use denote.Ref.{now}
-use Rattle.flow.proofs.Stores.{fill-all}
+-- `clear` meets its contract: a run of stores is a run of columns.
 use native.Mathlib.Omega.{arith}
-use Prim.Native.Nat.{ℕ, _≤_, _-_}
-use mathlib.Core.Path.{_≡_, refl, ap, _∙_}
-use mathlib.Core.List.{List, _++_}
-use lib.ListN.{length, set, replicate, drop, length-set}
-use borrow.Author.Fill.{fill-none, fill-more}
+use Prim.Native.Nat.{_*_}
+use lib.ListN.{length-drop}
+use Rattle.flow.proofs.Columns.{columns-fit, clear-columns}
+use denote.Ref.{now}
+use borrow.Author.Needs.{needs}
 use Rattle.flow.proofs.cells.clear.Statement.{statement}
 use Rattle.flow.proofs.cells.clear.Tie as tie
 
-abbrev Inv-loop : tie.InvT-loop
-Inv-loop s₀ i₀ s i = (length s ≡ length s₀) × (i ≤ length s₀) × (s ≡ replicate i 0 ++ drop i s₀)
+mul-start : tie.Need-mul-start
+mul-start c = omega (arith, columns-fit (c .before .pre))
 
-abbrev μ-loop : tie.MeasureT-loop
-μ-loop s₀ i₀ s i = length s₀ - i
+mul-size : tie.Need-mul-size
+mul-size c = omega (arith, columns-fit (c .before .pre))
 
-loop-holds : tie.Need-loop-holds Inv-loop μ-loop
-loop-holds c = (refl, omega arith, fill-none _ 0)
+mul-clear : tie.Need-mul-clear
+mul-clear c = omega (arith, columns-fit (c .before .pre))
 
-mul-s : tie.Need-mul-s Inv-loop μ-loop
-mul-s c = omega arith
+sub-clear : tie.Need-sub-clear
+sub-clear c = omega (arith, columns-fit (c .before .pre))
 
-slice-write-s : tie.Need-slice-write-s Inv-loop μ-loop
-slice-write-s c = omega arith
+part-clear-start : tie.Need-part-clear-start
+part-clear-start c = omega (arith, columns-fit (c .before .pre))
 
-add-i : tie.Need-add-i Inv-loop μ-loop
-add-i c = omega arith
+part-clear-end : tie.Need-part-clear-end
+part-clear-end c = search needs
 
-loop-less : tie.Need-loop-less Inv-loop μ-loop
-loop-less c = omega arith
+clear-requires : tie.Need-clear-requires
+clear-requires c κs =
+    let a = c .before .before .args in
+    omega (arith, columns-fit (c .before .before .pre), length-drop (a .first * a .nodes) (now (a .links)))
 
-loop-again : tie.Need-loop-again Inv-loop μ-loop
-loop-again c = let l = c .before .loop .inv in (simp length-set (l .0), omega arith, ap (λ (x : List ℕ). set x (c .before .loop .i) 0) (l .2) ∙ fill-more (c .before .loop .i) 0 _ (omega arith))
+same-length : tie.Need-same-length
+same-length c = search needs
 
-same-length : tie.Need-same-length Inv-loop μ-loop
-same-length c = c .before .loop .inv .0
-
-returns : tie.Need-returns Inv-loop μ-loop
-returns c = let l = c .before .loop .inv in l .2 ∙ fill-all (now (c .before .before .args .s)) (c .before .loop .i) 0 (omega arith)
+returns : tie.Need-returns
+returns c =
+    let start = c .before .before .before .before .before in
+    let at-clear = c .before .before in
+    clear-columns (start .pre) (at-clear .clear .ensures)
 
 pub clear-spec : {M : Type 1} → statement M
 clear-spec =
     tie.close
     (tie.spec
-    Inv-loop
-    μ-loop
-    loop-holds
-    mul-s
-    slice-write-s
-    add-i
-    loop-less
-    loop-again
+    mul-start
+    mul-size
+    mul-clear
+    sub-clear
+    part-clear-start
+    part-clear-end
+    clear-requires
     same-length
     returns)

@@ -2,22 +2,28 @@
 use native.Mathlib.Omega.{arith}
 use mathlib.Core.Path.{sym}
 use lib.ListN.{List·getD-eq-default}
+use Rattle.storage.proofs.InColumns.{column-size}
+use Rattle.flow.specs.Links.{nextIn}
 use denote.Ref.{now}
 use borrow.Author.Needs.{needs}
 use Rattle.flow.proofs.reading.link_of.Statement.{statement}
 use Rattle.flow.proofs.reading.link_of.Tie as tie
 
-mul-result : tie.Need-mul-result
-mul-result c = search needs
+cast-i : tie.Need-cast-i
+cast-i c = search needs
 
-shared-slice-read-result : tie.Need-shared-slice-read-result
-shared-slice-read-result c = search needs
+at-requires : tie.Need-at-requires
+at-requires c κs = search needs
 
 returns : tie.Need-returns
 returns c = search needs
 
 returns-2 : tie.Need-returns-2
-returns-2 c = sym (List·getD-eq-default (now (c .before .args .next)) 0 {n = c .before .args .v} (omega arith))
+returns-2 c =
+    let start = c .before .before .before in
+    let a = start .args in
+    let size = column-size (a .nodes) 0 (now (a .links)) (omega arith) in
+    sym (List·getD-eq-default (nextIn (a .nodes) (now (a .links))) 0 {n = a .v .id} (omega arith))
 
 pub link-of-spec : {M : Type 1} → statement M
-link-of-spec = tie.close (tie.spec mul-result shared-slice-read-result returns returns-2)
+link-of-spec = tie.close (tie.spec cast-i at-requires returns returns-2)

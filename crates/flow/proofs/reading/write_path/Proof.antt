@@ -1,50 +1,65 @@
--- `write_path` meets its contract: what was followed stands in the array.
-use borrow.Author.Needs.{needs}
+-- `write_path` meets its contract: what was followed stands in the third column.
 use native.Mathlib.Omega.{arith}
 use Prim.Native.Nat.{_-_}
-use mathlib.Core.Path.{ap, _∙_}
-use lib.ListN.{length, length-set}
-use lib.Seq.{length-sets}
-use denote.Ref.{now}
+use lib.ListN.{length-set}
 use Rattle.flow.proofs.Listing.{Following, follow-starts, path-long, follow-stops, follow-turn, follow-full}
+use denote.Ref.{now}
+use borrow.Author.Needs.{needs}
 use Rattle.flow.proofs.reading.write_path.Statement.{statement}
 use Rattle.flow.proofs.reading.write_path.Tie as tie
 
 abbrev Inv-loop : tie.InvT-loop
-Inv-loop next path₀ v₀ j₀ path v j = Following next v₀ path₀ path v j
+Inv-loop links₀ nodes start v₀ j₀ links v j =
+    Following nodes v₀ links₀ links v j
 
 abbrev μ-loop : tie.MeasureT-loop
-μ-loop next path₀ v₀ j₀ path v j = length next - j
+μ-loop links₀ nodes start v₀ j₀ links v j = nodes - j
+
+mul-start : tie.Need-mul-start Inv-loop μ-loop
+mul-start c = search needs
 
 loop-holds : tie.Need-loop-holds Inv-loop μ-loop
-loop-holds c = follow-starts (now (c .before .before .args .next)) (now (c .before .before .args .path)) (c .before .before .args .first .id)
+loop-holds c = follow-starts (c .before .args .nodes) (c .before .args .first .id) (now (c .before .args .links))
 
-mul-path : tie.Need-mul-path Inv-loop μ-loop
-mul-path c = omega (arith, path-long (c .before .loop .inv) (c .loop-test .taken), c .loop-test .taken, (c .before .before .before .before .pre))
+add-place : tie.Need-add-place Inv-loop μ-loop
+add-place c = omega arith
 
-slice-write-path : tie.Need-slice-write-path Inv-loop μ-loop
-slice-write-path c = omega (arith, path-long (c .before .loop .inv) (c .loop-test .taken), c .loop-test .taken, (c .before .before .before .before .pre))
+mul-links : tie.Need-mul-links Inv-loop μ-loop
+mul-links c = omega (arith, path-long (c .before .loop .inv))
+
+slice-write-links : tie.Need-slice-write-links Inv-loop μ-loop
+slice-write-links c = omega (arith, path-long (c .before .loop .inv))
 
 add-j : tie.Need-add-j Inv-loop μ-loop
-add-j c = omega (arith, c .loop-test .taken)
+add-j c = omega arith
 
 link-of-requires : tie.Need-link-of-requires Inv-loop μ-loop
-link-of-requires c κs = search needs
+link-of-requires c κs = simp length-set (omega (arith, path-long (c .before .before .loop .inv)))
 
 same-length : tie.Need-same-length Inv-loop μ-loop
-same-length c = simp length-set (path-long (c .before .before .before .loop .inv) (c .before .before .loop-test .taken))
+same-length c =
+    let at-loop = c .before .before .before .before in
+    simp length-set (path-long (at-loop .loop .inv))
 
 returns : tie.Need-returns Inv-loop μ-loop
-returns c = follow-stops (c .before .before .before .loop .inv) (c .before .before .loop-test .taken) (c .before .link-of .ensures) (c .if1 .taken)
+returns c =
+    let in-loop = c .before .before .before in
+    let at-loop = in-loop .before in
+    follow-stops (at-loop .loop .inv) (in-loop .loop-test .taken) (c .before .link-of .ensures) (c .if1 .taken)
 
 loop-less : tie.Need-loop-less Inv-loop μ-loop
-loop-less c = omega (arith, c .before .before .loop-test .taken)
+loop-less c =
+    let in-loop = c .before .before .before in
+    omega (arith, in-loop .loop-test .taken)
 
 loop-again : tie.Need-loop-again Inv-loop μ-loop
-loop-again c = follow-turn (c .before .before .before .loop .inv) (c .before .before .loop-test .taken) (c .before .link-of .ensures) (c .if1 .left)
+loop-again c =
+    let in-loop = c .before .before .before in
+    let at-loop = in-loop .before in
+    follow-turn (at-loop .loop .inv) (in-loop .loop-test .taken) (c .before .link-of .ensures) (c .if1 .left)
 
 same-length-2 : tie.Need-same-length-2 Inv-loop μ-loop
-same-length-2 c = ap length (c .before .loop .inv .same) ∙ length-sets (now (c .before .before .before .before .args .path)) 0 (c .before .loop .inv .done)
+same-length-2 c = path-long (c .before .loop .inv)
 
 returns-2 : tie.Need-returns-2 Inv-loop μ-loop
 returns-2 c = follow-full (c .before .loop .inv) (c .loop-test .left)
@@ -55,9 +70,11 @@ write-path-spec =
     (tie.spec
     Inv-loop
     μ-loop
+    mul-start
     loop-holds
-    mul-path
-    slice-write-path
+    add-place
+    mul-links
+    slice-write-links
     add-j
     link-of-requires
     same-length

@@ -1,78 +1,99 @@
--- `run` meets its contract: there are as many paths as rounds, and at most K + 1 rounds.
-use borrow.Author.Needs.{needs}
+-- `run` meets its contract: as many paths as rounds.
 use native.Mathlib.Omega.{arith}
 use Prim.Native.Nat.{suc, _-_}
-use mathlib.Core.Path.{_≡_, refl, sym, subst, _∙_}
-use denote.Ref.{now}
+use mathlib.Core.Path.{_≡_, refl, subst, _∙_}
 use borrow.Author.Tests.{not-true, not-false}
+use Rattle.storage.proofs.Clears.{beyond-then}
 use Rattle.flow.specs.Augments.{FlowIn}
 use Rattle.flow.specs.Rounds.{Ran}
 use Rattle.flow.proofs.Rounded.{Running, run-starts, round-asked, round-more, round-full}
+use denote.Ref.{now}
 use Rattle.flow.proofs.rounds.run.Statement.{statement}
 use Rattle.flow.proofs.rounds.run.Tie as tie
 
 abbrev Inv-loop : tie.InvT-loop
-Inv-loop fan count inputs nodes order area ends next₀ prev₀ ins₀ outs₀ parent₀ most number₀ next prev ins outs parent number = Running inputs nodes most fan count area ends next prev ins outs parent number
+Inv-loop numbers fanins order roles links₀ most number₀ links number =
+    Running (numbers .inputs) (numbers .nodes) (numbers .k .leaves) fanins roles links₀ links number
 
 abbrev μ-loop : tie.MeasureT-loop
-μ-loop fan count inputs nodes order area ends next₀ prev₀ ins₀ outs₀ parent₀ most number₀ next prev ins outs parent number = suc most - number
+μ-loop numbers fanins order roles links₀ most number₀ links number = suc (numbers .k .leaves) - number
 
 clear-requires : tie.Need-clear-requires Inv-loop μ-loop
-clear-requires c κs = search needs
-
-clear-requires-2 : tie.Need-clear-requires-2 Inv-loop μ-loop
-clear-requires-2 c κs = search needs
+clear-requires c κs =
+    let start = c .before .before .before .before .before in
+    record { small = start .pre .field .ground .small; long = start .pre .long; of-five = omega arith }
 
 loop-holds : tie.Need-loop-holds Inv-loop μ-loop
-loop-holds c = run-starts (c .before .before .before .before .before .before .before .before .before .before .before .before .before .before .before .before .before .before .pre) (c .before .before .before .before .before .before .clear .ensures) (c .before .before .clear2 .ensures)
+loop-holds c =
+    let after-clear = c .before .before .before in
+    let start = after-clear .before .before .before .before .before .before in
+    run-starts (start .pre) (after-clear .clear .ensures)
 
 add-path-requires : tie.Need-add-path-requires Inv-loop μ-loop
-add-path-requires c κs = round-asked (c .before .before .before .before .before .before .loop .inv) ((c .before .before .before .before .before .before .before .before .before .before .before .before .before .before .before .before .before .before .before .before .before .before .before .before .before .pre) .field)
+add-path-requires c κs =
+    let start = c .before .before .before .before .before .before .before .before .before .before .before .before in
+    let at-loop = c .before .before in
+    round-asked (at-loop .loop .inv) (start .pre .field)
 
 same-length : tie.Need-same-length Inv-loop μ-loop
-same-length c = (round-full (c .before .before .before .before .before .before .before .before .before .before .before .before .before .before .before .before .before .before .loop .inv) (c .before .before .before .before .before .before .before .before .before .before .before .add-path .ensures) (not-true (c .before .before .before .before .before .before .before .before .before .before .before .add-path .result) (c .if1 .taken))) .1 .next-long ∙ sym ((c .before .before .before .before .before .before .before .before .before .before .before .before .before .before .before .before .before .before .before .before .before .before .before .before .before .before .before .before .before .before .before .before .before .before .before .before .before .pre) .next-long)
-
-same-length-2 : tie.Need-same-length-2 Inv-loop μ-loop
-same-length-2 c = (round-full (c .before .before .before .before .before .before .before .before .before .before .before .before .before .before .before .before .before .before .loop .inv) (c .before .before .before .before .before .before .before .before .before .before .before .add-path .ensures) (not-true (c .before .before .before .before .before .before .before .before .before .before .before .add-path .result) (c .if1 .taken))) .1 .prev-long ∙ sym ((c .before .before .before .before .before .before .before .before .before .before .before .before .before .before .before .before .before .before .before .before .before .before .before .before .before .before .before .before .before .before .before .before .before .before .before .before .before .pre) .prev-long)
-
-same-length-3 : tie.Need-same-length-3 Inv-loop μ-loop
-same-length-3 c = (round-full (c .before .before .before .before .before .before .before .before .before .before .before .before .before .before .before .before .before .before .loop .inv) (c .before .before .before .before .before .before .before .before .before .before .before .add-path .ensures) (not-true (c .before .before .before .before .before .before .before .before .before .before .before .add-path .result) (c .if1 .taken))) .2 .in-long ∙ sym ((c .before .before .before .before .before .before .before .before .before .before .before .before .before .before .before .before .before .before .before .before .before .before .before .before .before .before .before .before .before .before .before .before .before .before .before .before .before .pre) .in-long)
-
-same-length-4 : tie.Need-same-length-4 Inv-loop μ-loop
-same-length-4 c = (round-full (c .before .before .before .before .before .before .before .before .before .before .before .before .before .before .before .before .before .before .loop .inv) (c .before .before .before .before .before .before .before .before .before .before .before .add-path .ensures) (not-true (c .before .before .before .before .before .before .before .before .before .before .before .add-path .result) (c .if1 .taken))) .2 .out-long ∙ sym ((c .before .before .before .before .before .before .before .before .before .before .before .before .before .before .before .before .before .before .before .before .before .before .before .before .before .before .before .before .before .before .before .before .before .before .before .before .before .pre) .out-long)
-
-same-length-5 : tie.Need-same-length-5 Inv-loop μ-loop
-same-length-5 c = (round-full (c .before .before .before .before .before .before .before .before .before .before .before .before .before .before .before .before .before .before .loop .inv) (c .before .before .before .before .before .before .before .before .before .before .before .add-path .ensures) (not-true (c .before .before .before .before .before .before .before .before .before .before .before .add-path .result) (c .if1 .taken))) .2 .parent-long ∙ sym ((c .before .before .before .before .before .before .before .before .before .before .before .before .before .before .before .before .before .before .before .before .before .before .before .before .before .before .before .before .before .before .before .before .before .before .before .before .before .pre) .parent-long)
+same-length c =
+    let after-add-path = c .before .before .before in
+    let at-loop = after-add-path .before .before .before in
+    let after-clear = at-loop .before .before .before .before in
+    after-add-path .add-path .ensures .1 .size
+    ∙ at-loop .loop .inv .rest .size
+    ∙ after-clear .clear .ensures .rest .size
 
 returns : tie.Need-returns Inv-loop μ-loop
-returns c = let f = (round-full (c .before .before .before .before .before .before .before .before .before .before .before .before .before .before .before .before .before .before .loop .inv) (c .before .before .before .before .before .before .before .before .before .before .before .add-path .ensures) (not-true (c .before .before .before .before .before .before .before .before .before .before .before .add-path .result) (c .if1 .taken))) in Ran.full (c .before .before .before .before .before .before .before .before .before .before .before .before .before .before .before .before .before .before .loop .number) (f .0) refl (omega (arith, c .before .before .before .before .before .before .before .before .before .before .before .before .before .before .before .before .before .loop-test .taken)) (f .1) (f .2) (f .3)
+returns c =
+    let after-add-path = c .before .before .before in
+    let in-loop = after-add-path .before .before in
+    let at-loop = in-loop .before in
+    let after-clear = at-loop .before .before .before .before in
+    let f = round-full (at-loop .loop .inv) (after-add-path .add-path .ensures .0)
+    (not-true (after-add-path .add-path .result) (c .if1 .taken)) in (
+      Ran.full (at-loop .loop .number) (f .0) refl (omega (arith, in-loop .loop-test .taken)) (f .1) (f .2) (f .3),
+      beyond-then (after-clear .clear .ensures .rest)
+          (beyond-then (at-loop .loop .inv .rest) (after-add-path .add-path .ensures .1)),
+    )
 
 add-number : tie.Need-add-number Inv-loop μ-loop
-add-number c = omega (arith, c .before .before .before .before .before .before .before .before .before .before .before .before .before .before .before .before .before .loop-test .taken, (c .before .before .before .before .before .before .before .before .before .before .before .before .before .before .before .before .before .before .before .before .before .before .before .before .before .before .before .before .before .before .before .before .before .before .before .before .before .pre) .k-small)
+add-number c =
+    let in-loop = c .before .before .before .before .before in
+    let start = in-loop .before .before .before .before .before .before .before .before .before .before .before in
+    omega (arith, in-loop .loop-test .taken, start .pre .k-small)
 
 loop-less : tie.Need-loop-less Inv-loop μ-loop
-loop-less c = omega (arith, c .before .before .before .before .before .before .before .before .before .before .before .before .before .before .before .before .before .loop-test .taken)
+loop-less c =
+    let in-loop = c .before .before .before .before .before in
+    omega (arith, in-loop .loop-test .taken)
 
 loop-again : tie.Need-loop-again Inv-loop μ-loop
-loop-again c = round-more (c .before .before .before .before .before .before .before .before .before .before .before .before .before .before .before .before .before .before .loop .inv) (c .before .before .before .before .before .before .before .before .before .before .before .add-path .ensures) (not-false (c .before .before .before .before .before .before .before .before .before .before .before .add-path .result) (c .if1 .left)) (omega (arith, c .before .before .before .before .before .before .before .before .before .before .before .before .before .before .before .before .before .loop-test .taken))
+loop-again c =
+    let after-add-path = c .before .before .before in
+    let in-loop = after-add-path .before .before in
+    let at-loop = in-loop .before in
+    round-more (at-loop .loop .inv) (after-add-path .add-path .ensures .0) (after-add-path .add-path .ensures .1)
+    (not-false (after-add-path .add-path .result) (c .if1 .left)) (omega (arith, in-loop .loop-test .taken))
 
-same-length-6 : tie.Need-same-length-6 Inv-loop μ-loop
-same-length-6 c = c .before .loop .inv .flow .next-long ∙ sym ((c .before .before .before .before .before .before .before .before .before .before .before .before .before .before .before .before .before .before .before .before .pre) .next-long)
-
-same-length-7 : tie.Need-same-length-7 Inv-loop μ-loop
-same-length-7 c = c .before .loop .inv .flow .prev-long ∙ sym ((c .before .before .before .before .before .before .before .before .before .before .before .before .before .before .before .before .before .before .before .before .pre) .prev-long)
-
-same-length-8 : tie.Need-same-length-8 Inv-loop μ-loop
-same-length-8 c = c .before .loop .inv .in-long ∙ sym ((c .before .before .before .before .before .before .before .before .before .before .before .before .before .before .before .before .before .before .before .before .pre) .in-long)
-
-same-length-9 : tie.Need-same-length-9 Inv-loop μ-loop
-same-length-9 c = c .before .loop .inv .out-long ∙ sym ((c .before .before .before .before .before .before .before .before .before .before .before .before .before .before .before .before .before .before .before .before .pre) .out-long)
-
-same-length-10 : tie.Need-same-length-10 Inv-loop μ-loop
-same-length-10 c = c .before .loop .inv .parent-long ∙ sym ((c .before .before .before .before .before .before .before .before .before .before .before .before .before .before .before .before .before .before .before .before .pre) .parent-long)
+same-length-2 : tie.Need-same-length-2 Inv-loop μ-loop
+same-length-2 c =
+    let after-clear = c .before .before .before .before .before in
+    c .before .loop .inv .rest .size ∙ after-clear .clear .ensures .rest .size
 
 returns-2 : tie.Need-returns-2 Inv-loop μ-loop
-returns-2 c = let r = c .before .loop .inv in let a = c .before .before .before .before .before .before .before .before .before .before .before .before .before .before .before .before .before .before .before .before .args in let all : c .before .loop .number ≡ suc (a .k .leaves) = omega (arith, r .few, c .loop-test .left) in Ran.many refl (subst (FlowIn (a .inputs) (a .nodes) (now (a .fan)) (now (a .count)) (now (a .area)) (now (a .ends)) (c .before .loop .next) (c .before .loop .prev)) all (r .flow)) (r .in-long) (r .out-long) (r .parent-long)
+returns-2 c =
+    let after-clear = c .before .before .before .before .before in
+    let start = after-clear .before .before .before .before .before .before in
+    let a = start .args in
+    let n = a .numbers in
+    let all : c .before .loop .number ≡ suc (n .k .leaves) =
+    omega (arith, c .before .loop .inv .few, c .loop-test .left) in (
+      Ran.many refl
+          (subst (FlowIn (n .inputs) (n .nodes) (now (a .fanins)) (now (a .roles)) (c .before .loop .links)) all
+          (c .before .loop .inv .flow)),
+      beyond-then (after-clear .clear .ensures .rest) (c .before .loop .inv .rest),
+    )
 
 pub run-spec : {M : Type 1} → statement M
 run-spec =
@@ -81,21 +102,12 @@ run-spec =
     Inv-loop
     μ-loop
     clear-requires
-    clear-requires-2
     loop-holds
     add-path-requires
     same-length
-    same-length-2
-    same-length-3
-    same-length-4
-    same-length-5
     returns
     add-number
     loop-less
     loop-again
-    same-length-6
-    same-length-7
-    same-length-8
-    same-length-9
-    same-length-10
+    same-length-2
     returns-2)

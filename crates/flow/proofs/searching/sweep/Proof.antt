@@ -1,62 +1,245 @@
--- `sweep` meets its contract: each node passed is settled while no number was given.
+-- `sweep` meets its contract: the nodes passed are settled while no number was given.
 use native.Mathlib.Omega.{arith}
-use Prim.Native.Nat.{ℕ, _<_, _-_}
-use mathlib.Core.Path.{refl, sym, subst, _∙_}
+use Prim.Native.Nat.{_-_, _<_}
+use mathlib.Core.Path.{refl}
+use lib.ListN.{length}
+use Rattle.storage.specs.Entries.{at}
 use Rattle.flow.specs.Sweeps.{SweptSo}
-use Rattle.flow.proofs.Sweeping.{SweepLeft, sweep-starts, turn-low, inputs-small, node-low, sweep-turn, sweep-settles}
+use Rattle.flow.proofs.Columns.{paths-then}
+use Rattle.flow.proofs.Finding.{visited-input}
+use Rattle.flow.proofs.Sweeping.{SweepLeft, sweep-starts, sweep-turn, order-size, gate-above, gate-below}
+use Rattle.flow.proofs.Sweeping.{end-asked, sweep-settles}
+use denote.Ref.{now}
 use Rattle.flow.proofs.searching.sweep.Statement.{statement}
 use Rattle.flow.proofs.searching.sweep.Tie as tie
 
 abbrev Inv-loop : tie.InvT-loop
-Inv-loop fan count size order area ends next ins₀ outs₀ parent₀ number inputs nodes last₀ i₀ ins outs parent last i = SweepLeft (size .inputs) (size .nodes) fan count order area ends next ins₀ outs₀ number ins outs parent last i
+Inv-loop numbers fanins order roles links₀ number inputs nodes last₀ i₀ links last i =
+    SweepLeft (numbers .inputs) (numbers .nodes) fanins roles (λ v. v) links₀ number links last i
 
 abbrev μ-loop : tie.MeasureT-loop
-μ-loop fan count size order area ends next ins₀ outs₀ parent₀ number inputs nodes last₀ i₀ ins outs parent last i = size .nodes - i
+μ-loop numbers fanins order roles links₀ number inputs nodes last₀ i₀ links last i = numbers .inputs - i
 
-loop-holds : tie.Need-loop-holds Inv-loop μ-loop
-loop-holds c = sweep-starts ((c .before .before .before .before .before .before .before .before .before .pre) .field) ((c .before .before .before .before .before .before .before .before .before .pre) .searched)
+abbrev Inv-loop2 : tie.InvT-loop2
+Inv-loop2 numbers fanins order roles links₀ number inputs nodes last₀ i gates j₀ links last j =
+    SweepLeft (numbers .inputs) (numbers .nodes) fanins roles (at order) links₀ last₀ links last j
 
-node-at-requires : tie.Need-node-at-requires Inv-loop μ-loop
-node-at-requires c κs = (turn-low ((c .before .before .before .before .before .before .before .before .before .before .before .pre) .field) (c .before .loop .i) (c .loop-test .taken), inputs-small ((c .before .before .before .before .before .before .before .before .before .before .before .pre) .field))
+abbrev μ-loop2 : tie.MeasureT-loop2
+μ-loop2 numbers fanins order roles links₀ number inputs nodes last₀ i gates j₀ links last j =
+    numbers .nodes - numbers .inputs - j
 
-visit-requires : tie.Need-visit-requires Inv-loop μ-loop
-visit-requires c κs = record { ground = (c .before .before .before .before .before .before .before .before .before .before .before .before .before .before .before .pre) .field .ground; searched = c .before .before .before .before .before .loop .inv .searched; low = subst (λ (w : ℕ). w < c .before .before .before .before .before .before .before .before .before .before .before .before .before .before .before .args .size .nodes) (sym (c .before .before .before .node-at .ensures)) (node-low ((c .before .before .before .before .before .before .before .before .before .before .before .before .before .before .before .pre) .field) (c .before .before .before .before .before .loop .i) (c .before .before .before .before .loop-test .taken)) }
+loop-holds : tie.Need-loop-holds Inv-loop μ-loop Inv-loop2 μ-loop2
+loop-holds c =
+    let start = c .before .before .before .before in
+    sweep-starts (start .pre .searched)
 
-is-reached-requires : tie.Need-is-reached-requires Inv-loop μ-loop
-is-reached-requires c κs = let low = node-low ((c .before .before .before .before .before .before .before .before .before .before .before .before .before .before .before .before .before .before .before .before .before .before .before .pre) .field) (c .before .before .before .before .before .before .before .before .before .before .before .before .before .loop .i) (c .before .before .before .before .before .before .before .before .before .before .before .before .loop-test .taken) in (omega (arith, c .before .before .before .before .before .before .before .before .before .before .before .node-at .ensures, (c .before .before .before .before .before .before .before .before .before .before .before .before .before .before .before .before .before .before .before .before .before .before .before .pre) .field .ends-long), omega (arith, c .before .before .before .before .before .before .before .before .before .before .before .node-at .ensures, c .before .before .before .before .before .before .before .visit .ensures .searched .out-long))
+cast-t16 : tie.Need-cast-t16 Inv-loop μ-loop Inv-loop2 μ-loop2
+cast-t16 c =
+    let start = c .before .before .before .before .before .before in
+    omega (arith, order-size (start .pre .field), start .pre .field .ground .small)
 
-same-length : tie.Need-same-length Inv-loop μ-loop
-same-length c = c .before .before .before .before .before .before .before .before .before .visit .ensures .searched .in-long ∙ sym ((c .before .before .before .before .before .before .before .before .before .before .before .before .before .before .before .before .before .before .before .before .before .before .before .before .before .pre) .searched .in-long)
+visit-input-requires : tie.Need-visit-input-requires Inv-loop μ-loop Inv-loop2 μ-loop2
+visit-input-requires c κs =
+    let start = c .before .before .before .before .before .before .before in
+    let at-loop = c .before .before in
+    let f = start .pre .field in
+    record {
+      inputs = start .args .numbers .inputs;
+      fanins = now (start .args .fanins);
+      visit = record {
+        ground = f .ground;
+        searched = at-loop .loop .inv .searched;
+        low = omega (arith, order-size f, c .before .loop-test .taken);
+      };
+      input = c .before .loop-test .taken;
+    }
 
-same-length-2 : tie.Need-same-length-2 Inv-loop μ-loop
-same-length-2 c = c .before .before .before .before .before .before .before .before .before .visit .ensures .searched .out-long ∙ sym ((c .before .before .before .before .before .before .before .before .before .before .before .before .before .before .before .before .before .before .before .before .before .before .before .before .before .pre) .searched .out-long)
+is-reached-requires : tie.Need-is-reached-requires Inv-loop μ-loop Inv-loop2 μ-loop2
+is-reached-requires c κs =
+    let after-visit-input = c .before .before .before in
+    let in-loop = after-visit-input .before .before in
+    let at-loop = in-loop .before in
+    let start = at-loop .before .before .before .before .before in
+    let f = start .pre .field in
+    let inv = at-loop .loop .inv in
+    let visited = visited-input (f .ground) (inv .searched) (in-loop .loop-test .taken)
+    (after-visit-input .visit-input .ensures) in
+    end-asked f (visited .searched) (omega (arith, order-size f, in-loop .loop-test .taken))
 
-same-length-3 : tie.Need-same-length-3 Inv-loop μ-loop
-same-length-3 c = c .before .before .before .before .before .before .before .before .before .visit .ensures .searched .parent-long ∙ sym ((c .before .before .before .before .before .before .before .before .before .before .before .before .before .before .before .before .before .before .before .before .before .before .before .before .before .pre) .searched .parent-long)
+same-length : tie.Need-same-length Inv-loop μ-loop Inv-loop2 μ-loop2
+same-length c =
+    let after-visit-input = c .before .before .before .before .before in
+    let in-loop = after-visit-input .before .before in
+    let at-loop = in-loop .before in
+    let start = at-loop .before .before .before .before .before in
+    let f = start .pre .field in
+    let inv = at-loop .loop .inv in
+    let visited = visited-input (f .ground) (inv .searched) (in-loop .loop-test .taken)
+    (after-visit-input .visit-input .ensures) in
+    paths-then (inv .kept) (visited .kept) .rest .size
 
-returns : tie.Need-returns Inv-loop μ-loop
-returns c = SweptSo.reached (c .before .before .before .before .before .before .before .before .before .before .before .before .before .node-at .result) refl (record { last = c .before .before .before .before .before .before .before .before .before .visit .result; searched = c .before .before .before .before .before .before .before .before .before .visit .ensures .searched; is-end = c .before .is-reached .ensures .is-end (c .if1 .taken); reached = c .before .is-reached .ensures .reached (c .if1 .taken) })
+returns : tie.Need-returns Inv-loop μ-loop Inv-loop2 μ-loop2
+returns c =
+    let after-visit-input = c .before .before .before .before .before in
+    let in-loop = after-visit-input .before .before in
+    let at-loop = in-loop .before in
+    let start = at-loop .before .before .before .before .before in
+    let f = start .pre .field in
+    let inv = at-loop .loop .inv in
+    let visited = visited-input (f .ground) (inv .searched) (in-loop .loop-test .taken)
+    (after-visit-input .visit-input .ensures) in
+    let reached = c .before .is-reached .ensures in (
+      SweptSo.reached _ refl
+          (record {
+            last = _;
+            searched = visited .searched;
+            is-end = reached .is-end (c .if1 .taken);
+            reached = reached .reached (c .if1 .taken);
+          }),
+      paths-then (inv .kept) (visited .kept),
+    )
 
-add-i : tie.Need-add-i Inv-loop μ-loop
-add-i c = omega (arith, c .before .before .before .before .before .before .before .before .before .before .before .before .before .before .loop-test .taken, (c .before .before .before .before .before .before .before .before .before .before .before .before .before .before .before .before .before .before .before .before .before .before .before .before .before .pre) .field .ground .small)
+add-i : tie.Need-add-i Inv-loop μ-loop Inv-loop2 μ-loop2
+add-i c =
+    let in-loop = c .before .before .before .before .before .before .before in
+    let start = in-loop .before .before .before .before .before .before in
+    omega (arith, order-size (start .pre .field), start .pre .field .ground .small, in-loop .loop-test .taken)
 
-loop-less : tie.Need-loop-less Inv-loop μ-loop
-loop-less c = omega arith
+loop-less : tie.Need-loop-less Inv-loop μ-loop Inv-loop2 μ-loop2
+loop-less c =
+    let in-loop = c .before .before .before .before .before .before .before in
+    omega (arith, in-loop .loop-test .taken)
 
-loop-again : tie.Need-loop-again Inv-loop μ-loop
-loop-again c = sweep-turn ((c .before .before .before .before .before .before .before .before .before .before .before .before .before .before .before .before .before .before .before .before .before .before .before .before .before .pre) .field) (c .before .before .before .before .before .before .before .before .before .before .before .before .before .before .before .loop .inv) (c .before .before .before .before .before .before .before .before .before .before .before .before .before .before .loop-test .taken) (c .before .before .before .before .before .before .before .before .before .before .before .before .before .node-at .ensures) (c .before .before .before .before .before .before .before .before .before .visit .ensures) (c .before .is-reached .ensures) (c .if1 .left)
+loop-again : tie.Need-loop-again Inv-loop μ-loop Inv-loop2 μ-loop2
+loop-again c =
+    let after-visit-input = c .before .before .before .before .before in
+    let in-loop = after-visit-input .before .before in
+    let at-loop = in-loop .before in
+    let start = at-loop .before .before .before .before .before in
+    let f = start .pre .field in
+    let inv = at-loop .loop .inv in
+    let visited = visited-input (f .ground) (inv .searched) (in-loop .loop-test .taken)
+    (after-visit-input .visit-input .ensures) in
+    sweep-turn inv refl visited (c .before .is-reached .ensures) (c .if1 .left)
 
-same-length-4 : tie.Need-same-length-4 Inv-loop μ-loop
-same-length-4 c = c .before .loop .inv .searched .in-long ∙ sym ((c .before .before .before .before .before .before .before .before .before .before .before .pre) .searched .in-long)
+sub-gates : tie.Need-sub-gates Inv-loop μ-loop Inv-loop2 μ-loop2
+sub-gates c =
+    let start = c .before .before .before .before .before .before in
+    omega (arith, order-size (start .pre .field))
 
-same-length-5 : tie.Need-same-length-5 Inv-loop μ-loop
-same-length-5 c = c .before .loop .inv .searched .out-long ∙ sym ((c .before .before .before .before .before .before .before .before .before .before .before .pre) .searched .out-long)
+loop2-holds : tie.Need-loop2-holds Inv-loop μ-loop Inv-loop2 μ-loop2
+loop2-holds c = sweep-starts (c .before .loop .inv .searched)
 
-same-length-6 : tie.Need-same-length-6 Inv-loop μ-loop
-same-length-6 c = c .before .loop .inv .searched .parent-long ∙ sym ((c .before .before .before .before .before .before .before .before .before .before .before .pre) .searched .parent-long)
+mul-t23 : tie.Need-mul-t23 Inv-loop μ-loop Inv-loop2 μ-loop2
+mul-t23 c =
+    let start = c .before .before .before .before .before .before .before .before in
+    let f = start .pre .field in
+    let low : c .before .loop2 .j < length (now (start .args .order)) =
+    omega (arith, order-size f, c .loop2-test .taken) in
+    omega (arith, low)
 
-returns-2 : tie.Need-returns-2 Inv-loop μ-loop
-returns-2 c = SweptSo.up-to (c .before .loop .last) refl (c .before .loop .inv .searched) (c .before .loop .inv .onward) (sweep-settles ((c .before .before .before .before .before .before .before .before .before .before .before .pre) .field) (c .before .loop .inv) (c .loop-test .left))
+shared-slice-read-t25 : tie.Need-shared-slice-read-t25 Inv-loop μ-loop Inv-loop2 μ-loop2
+shared-slice-read-t25 c =
+    let start = c .before .before .before .before .before .before .before .before .before in
+    let at-loop2 = c .before .before in
+    let f = start .pre .field in
+    let low : at-loop2 .loop2 .j < length (now (start .args .order)) =
+    omega (arith, order-size f, c .before .loop2-test .taken) in
+    low
+
+visit-gate-requires : tie.Need-visit-gate-requires Inv-loop μ-loop Inv-loop2 μ-loop2
+visit-gate-requires c κs =
+    let at-loop2 = c .before .before .before in
+    let start = at-loop2 .before .before .before .before .before .before .before in
+    let at-loop2-test = c .before .before in
+    let f = start .pre .field in
+    let low : at-loop2 .loop2 .j < length (now (start .args .order)) =
+    omega (arith, order-size f, at-loop2-test .loop2-test .taken) in
+    record {
+      visit = record {
+        ground = f .ground;
+        searched = at-loop2 .loop2 .inv .searched;
+        low = gate-below f (at-loop2 .loop2 .j) low;
+      };
+      gate = gate-above f (at-loop2 .loop2 .j) low;
+    }
+
+is-reached-requires-2 : tie.Need-is-reached-requires-2 Inv-loop μ-loop Inv-loop2 μ-loop2
+is-reached-requires-2 c κs =
+    let after-visit-gate = c .before .before .before in
+    let in-loop2 = after-visit-gate .before .before .before in
+    let at-loop2 = in-loop2 .before in
+    let start = at-loop2 .before .before .before .before .before .before .before in
+    let f = start .pre .field in
+    let low : at-loop2 .loop2 .j < length (now (start .args .order)) =
+    omega (arith, order-size f, in-loop2 .loop2-test .taken) in
+    end-asked f (after-visit-gate .visit-gate .ensures .searched) (gate-below f (at-loop2 .loop2 .j) low)
+
+same-length-2 : tie.Need-same-length-2 Inv-loop μ-loop Inv-loop2 μ-loop2
+same-length-2 c =
+    let after-visit-gate = c .before .before .before .before .before in
+    let at-loop2 = after-visit-gate .before .before .before .before in
+    let at-loop = at-loop2 .before .before in
+    paths-then (at-loop .loop .inv .kept)
+    (paths-then (at-loop2 .loop2 .inv .kept) (after-visit-gate .visit-gate .ensures .kept)) .rest .size
+
+returns-2 : tie.Need-returns-2 Inv-loop μ-loop Inv-loop2 μ-loop2
+returns-2 c =
+    let after-visit-gate = c .before .before .before .before .before in
+    let at-loop2 = after-visit-gate .before .before .before .before in
+    let at-loop = at-loop2 .before .before in
+    let visited = after-visit-gate .visit-gate .ensures in
+    let reached = c .before .is-reached2 .ensures in (
+      SweptSo.reached _ refl
+          (record {
+            last = _;
+            searched = visited .searched;
+            is-end = reached .is-end (c .if2 .taken);
+            reached = reached .reached (c .if2 .taken);
+          }),
+      paths-then (at-loop .loop .inv .kept) (paths-then (at-loop2 .loop2 .inv .kept) (visited .kept)),
+    )
+
+add-j : tie.Need-add-j Inv-loop μ-loop Inv-loop2 μ-loop2
+add-j c =
+    let in-loop2 = c .before .before .before .before .before .before .before .before in
+    let at-loop2 = in-loop2 .before in
+    let start = at-loop2 .before .before .before .before .before .before .before in
+    let f = start .pre .field in
+    let low : at-loop2 .loop2 .j < length (now (start .args .order)) =
+    omega (arith, order-size f, in-loop2 .loop2-test .taken) in
+    omega (arith, order-size f, f .ground .small, low)
+
+loop2-less : tie.Need-loop2-less Inv-loop μ-loop Inv-loop2 μ-loop2
+loop2-less c =
+    let in-loop2 = c .before .before .before .before .before .before .before .before in
+    omega (arith, in-loop2 .loop2-test .taken)
+
+loop2-again : tie.Need-loop2-again Inv-loop μ-loop Inv-loop2 μ-loop2
+loop2-again c =
+    let after-visit-gate = c .before .before .before .before .before in
+    let at-loop2 = after-visit-gate .before .before .before .before in
+    sweep-turn (at-loop2 .loop2 .inv) refl (after-visit-gate .visit-gate .ensures) (c .before .is-reached2 .ensures)
+    (c .if2 .left)
+
+same-length-3 : tie.Need-same-length-3 Inv-loop μ-loop Inv-loop2 μ-loop2
+same-length-3 c =
+    let at-loop = c .before .before .before in
+    paths-then (at-loop .loop .inv .kept) (c .before .loop2 .inv .kept) .rest .size
+
+returns-3 : tie.Need-returns-3 Inv-loop μ-loop Inv-loop2 μ-loop2
+returns-3 c =
+    let at-loop = c .before .before .before in
+    let start = at-loop .before .before .before .before .before in
+    let at-loop-test = c .before .before in
+    let f = start .pre .field in
+    let a = at-loop .loop .inv in
+    let b = c .before .loop2 .inv in (
+      SweptSo.up-to (c .before .loop2 .last) refl (b .searched) (omega (arith, a .onward, b .onward))
+          (sweep-settles f a (omega (arith, at-loop-test .loop-test .left)) b
+          (omega (arith, order-size f, c .loop2-test .left))),
+      paths-then (a .kept) (b .kept),
+    )
 
 pub sweep-spec : {M : Type 1} → statement M
 sweep-spec =
@@ -64,18 +247,27 @@ sweep-spec =
     (tie.spec
     Inv-loop
     μ-loop
+    Inv-loop2
+    μ-loop2
     loop-holds
-    node-at-requires
-    visit-requires
+    cast-t16
+    visit-input-requires
     is-reached-requires
     same-length
-    same-length-2
-    same-length-3
     returns
     add-i
     loop-less
     loop-again
-    same-length-4
-    same-length-5
-    same-length-6
-    returns-2)
+    sub-gates
+    loop2-holds
+    mul-t23
+    shared-slice-read-t25
+    visit-gate-requires
+    is-reached-requires-2
+    same-length-2
+    returns-2
+    add-j
+    loop2-less
+    loop2-again
+    same-length-3
+    returns-3)

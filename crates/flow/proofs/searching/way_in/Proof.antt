@@ -1,54 +1,66 @@
 -- `way_in` meets its contract.
 use native.Mathlib.Omega.{arith}
-use mathlib.Core.Path.{refl}
-use denote.Ref.{now}
+use Rattle.flow.specs.Links.{nextIn, outsIn}
 use Rattle.flow.specs.Turns.{Entered}
 use Rattle.flow.proofs.Ways.{enter-fanin, enter-none}
+use denote.Ref.{now}
 use borrow.Author.Needs.{needs}
 use Rattle.flow.proofs.searching.way_in.Statement.{statement}
 use Rattle.flow.proofs.searching.way_in.Tie as tie
 
-cast-g : tie.Need-cast-g
-cast-g c = search needs
-
-returns : tie.Need-returns
-returns c = Entered.source refl (omega arith)
-
 found-fanin-requires : tie.Need-found-fanin-requires
 found-fanin-requires c κs = search needs
 
-returns-2 : tie.Need-returns-2
-returns-2 c = enter-fanin (c .before .before .before .before .before .before .before .before .args .inputs) (now (c .before .before .before .before .before .before .before .before .args .fan)) (now (c .before .before .before .before .before .before .before .before .args .count)) (now (c .before .before .before .before .before .before .before .before .args .next)) (now (c .before .before .before .before .before .before .before .before .args .outs)) (c .before .before .before .before .before .before .before .before .args .v .id) (c .before .found-fanin .ensures) (c .if2 .taken)
+returns : tie.Need-returns
+returns c =
+    let start = c .before .before .before .before in
+    let a = start .args in
+    let n = a .numbers .nodes in
+    let l = now (a .links) in
+    enter-fanin (a .numbers .inputs) (now (a .fanins)) (nextIn n l) (outsIn n l) (a .v .id)
+    (c .before .found-fanin .ensures) (c .if1 .taken)
 
 at-requires : tie.Need-at-requires
 at-requires c κs = search needs
 
-returns-3 : tie.Need-returns-3
-returns-3 c = enter-none (c .before .before .before .before .before .before .before .before .before .before .args .inputs) (now (c .before .before .before .before .before .before .before .before .before .before .args .fan)) (now (c .before .before .before .before .before .before .before .before .before .before .args .count)) (now (c .before .before .before .before .before .before .before .before .before .before .args .next)) (now (c .before .before .before .before .before .before .before .before .before .before .args .outs)) (c .before .before .before .before .before .before .before .before .before .before .args .v .id) (c .before .before .before .found-fanin .ensures) (omega arith) (omega arith) (λ used. absurd (omega arith))
+returns-2 : tie.Need-returns-2
+returns-2 c =
+    let after-found-fanin = c .before .before .before in
+    let start = after-found-fanin .before .before .before in
+    let a = start .args in
+    let n = a .numbers .nodes in
+    let l = now (a .links) in
+    enter-none (a .numbers .inputs) (now (a .fanins)) (nextIn n l) (outsIn n l) (a .v .id)
+    (after-found-fanin .found-fanin .ensures) (omega arith) (start .pre .gate) (λ used. absurd (omega arith))
 
 at-requires-2 : tie.Need-at-requires-2
 at-requires-2 c κs = search needs
 
-returns-4 : tie.Need-returns-4
-returns-4 c = enter-none (c .before .before .before .before .before .before .before .before .before .before .before .before .args .inputs) (now (c .before .before .before .before .before .before .before .before .before .before .before .before .args .fan)) (now (c .before .before .before .before .before .before .before .before .before .before .before .before .args .count)) (now (c .before .before .before .before .before .before .before .before .before .before .before .before .args .next)) (now (c .before .before .before .before .before .before .before .before .before .before .before .before .args .outs)) (c .before .before .before .before .before .before .before .before .before .before .before .before .args .v .id) (c .before .before .before .before .before .found-fanin .ensures) (omega arith) (omega arith) (λ used. omega arith)
+returns-3 : tie.Need-returns-3
+returns-3 c =
+    let after-found-fanin = c .before .before .before .before .before in
+    let start = after-found-fanin .before .before .before in
+    let a = start .args in
+    let n = a .numbers .nodes in
+    let l = now (a .links) in
+    enter-none (a .numbers .inputs) (now (a .fanins)) (nextIn n l) (outsIn n l) (a .v .id)
+    (after-found-fanin .found-fanin .ensures) (omega arith) (start .pre .gate) (λ used. omega arith)
 
 add-result : tie.Need-add-result
 add-result c = search needs
 
-returns-5 : tie.Need-returns-5
-returns-5 c = Entered.own (omega arith) (omega arith) (omega arith)
+returns-4 : tie.Need-returns-4
+returns-4 c = Entered.own (omega arith) (omega arith) (omega arith)
 
 pub way-in-spec : {M : Type 1} → statement M
 way-in-spec =
     tie.close
     (tie.spec
-    cast-g
-    returns
     found-fanin-requires
-    returns-2
+    returns
     at-requires
-    returns-3
+    returns-2
     at-requires-2
-    returns-4
+    returns-3
     add-result
-    returns-5)
+    returns-4)

@@ -1,7 +1,8 @@
 -- `way_out` meets its contract.
 use native.Mathlib.Omega.{arith}
-use denote.Ref.{now}
+use Rattle.flow.specs.Links.{nextIn, insIn}
 use Rattle.flow.proofs.Ways.{left-through, left-sink, left-back}
+use denote.Ref.{now}
 use borrow.Author.Needs.{needs}
 use Rattle.flow.proofs.searching.way_out.Statement.{statement}
 use Rattle.flow.proofs.searching.way_out.Tie as tie
@@ -13,20 +14,36 @@ at-requires-2 : tie.Need-at-requires-2
 at-requires-2 c κs = search needs
 
 returns : tie.Need-returns
-returns c = left-through (now (c .before .before .before .before .before .args .next)) (now (c .before .before .before .before .before .args .ins)) (c .before .before .before .before .before .args .v .id) (c .at2 .result) (omega arith) (c .at2 .ensures)
+returns c =
+    let start = c .before .before .before .before in
+    let a = start .args in
+    let l = now (a .links) in
+    left-through (nextIn (a .nodes) l) (insIn (a .nodes) l) (a .v .id) (c .at2 .result) (omega arith) (c .at2 .ensures)
 
 returns-2 : tie.Need-returns-2
-returns-2 c = left-sink (now (c .before .before .before .before .before .args .next)) (now (c .before .before .before .before .before .args .ins)) (c .before .before .before .before .before .args .v .id) (omega arith)
+returns-2 c =
+    let start = c .before .before .before .before in
+    let a = start .args in
+    let l = now (a .links) in
+    left-sink (nextIn (a .nodes) l) (insIn (a .nodes) l) (a .v .id) (omega arith)
 
-sub-t8 : tie.Need-sub-t8
-sub-t8 c = search needs
+sub-result : tie.Need-sub-result
+sub-result c = search needs
 
 at-requires-3 : tie.Need-at-requires-3
-at-requires-3 c κs = (c .before .before .before .before .before .pre) .leads _ (omega arith)
+at-requires-3 c κs =
+    let start = c .before .before .before .before in
+    let p = start .pre in
+    record { small = p .small; long = p .long; one-of-five = omega arith; node = p .leads _ (omega arith) }
 
 returns-3 : tie.Need-returns-3
-returns-3 c = left-back (now (c .before .before .before .before .before .before .args .next)) (now (c .before .before .before .before .before .before .args .ins)) (c .before .before .before .before .before .before .args .v .id) (c .before .before .before .at .result) (c .at3 .result) (c .before .before .before .at .ensures) (omega arith) (c .at3 .ensures)
+returns-3 c =
+    let after-at = c .before .before .before in
+    let start = after-at .before .before in
+    let a = start .args in
+    let l = now (a .links) in
+    left-back (nextIn (a .nodes) l) (insIn (a .nodes) l) (a .v .id) (after-at .at .result) (c .at3 .result)
+    (after-at .at .ensures) (omega arith) (c .at3 .ensures)
 
 pub way-out-spec : {M : Type 1} → statement M
-way-out-spec =
-    tie.close (tie.spec at-requires at-requires-2 returns returns-2 sub-t8 at-requires-3 returns-3)
+way-out-spec = tie.close (tie.spec at-requires at-requires-2 returns returns-2 sub-result at-requires-3 returns-3)

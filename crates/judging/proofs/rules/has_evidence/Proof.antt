@@ -1,5 +1,4 @@
 -- `has_evidence` meets its contract: the walk, the area and its ends, then the paths.
-use native.Mathlib.Omega.{arith}
 use borrow.Author.Needs.{needs}
 use denote.Ref.{now}
 use Rattle.judging.proofs.Kept.{walk-asked, area-asked, paths-asked, evidence-told}
@@ -7,42 +6,44 @@ use Rattle.judging.proofs.rules.has_evidence.Statement.{statement}
 use Rattle.judging.proofs.rules.has_evidence.Tie as tie
 
 walk-requires : tie.Need-walk-requires
-walk-requires c κs = walk-asked (c .before .before .before .before .before .before .before .before .before .before .before .before .pre) (now (c .before .before .before .before .before .before .before .before .before .before .before .before .args .leaves))
+walk-requires c κs =
+    let start = c .before .before .before .before .before .before in
+    let a = start .args in
+    let asked = start .pre in
+    walk-asked asked (now (a .labels))
 
 mark-area-requires : tie.Need-mark-area-requires
-mark-area-requires c κs = area-asked (c .before .before .before .before .before .before .before .before .before .before .before .before .before .before .before .before .before .before .before .before .before .pre) (c .before .before .before .before .before .before .before .before .walk .ensures)
+mark-area-requires c κs =
+    let after-walk = c .before .before .before in
+    let start = after-walk .before .before .before .before .before .before .before in
+    let walk-here = after-walk .walk in
+    let asked = start .pre in
+    area-asked asked (walk-here .ensures)
 
 are-paths-requires : tie.Need-are-paths-requires
 are-paths-requires c κs =
-    let long = c .before .before .before .before .before .before .before .before .before .before .before .before .before .before .before .before .before .before .before .before .before .before .before .before .before .before .before .before .before .before .pre .at-gate .long in
-    let walk = c .before .before .before .before .before .before .before .before .before .before .before .before .before .before .before .before .before .walk in
-    let marked = c .before .before .before .before .before .before .before .before .mark-area in
-    paths-asked (c .before .before .before .before .before .before .before .before .before .before .before .before .before .before .before .before .before .before .before .before .before .before .before .before .before .before .before .before .before .before .pre) (omega arith) (omega arith)
+    let after-mark-area = c .before .before .before in
+    let after-walk = after-mark-area .before .before .before .before in
+    let start = after-walk .before .before .before .before .before .before .before in
+    let mark-area-here = after-mark-area .mark-area in
+    let walk-here = after-walk .walk in
+    let p = start .pre in
+    paths-asked p (walk-here .ensures) (mark-area-here .ensures)
 
 same-length : tie.Need-same-length
 same-length c = search needs
 
-same-length-2 : tie.Need-same-length-2
-same-length-2 c = search needs
-
-same-length-3 : tie.Need-same-length-3
-same-length-3 c = search needs
-
-same-length-4 : tie.Need-same-length-4
-same-length-4 c = search needs
-
 returns : tie.Need-returns
-returns c = evidence-told (c .before .before .before .before .before .before .before .before .before .before .before .before .before .before .before .before .before .before .before .before .before .before .before .before .before .before .before .before .before .before .before .before .before .pre) (c .before .before .before .before .before .before .before .before .before .before .before .before .before .before .before .before .before .before .before .before .walk .ensures) (search needs) (c .before .before .before .before .before .before .before .before .before .before .before .mark-area .ensures) (c .before .before .are-paths .ensures)
+returns c =
+    let after-mark-area = c .before .before .before .before .before .before in
+    let after-walk = after-mark-area .before .before .before .before in
+    let start = after-walk .before .before .before .before .before .before .before in
+    let are-paths-here = c .before .before .are-paths in
+    let mark-area-here = after-mark-area .mark-area in
+    let walk-here = after-walk .walk in
+    let p = start .pre in
+    evidence-told p (walk-here .ensures) (mark-area-here .ensures) (are-paths-here .ensures)
 
 pub has-evidence-spec : {M : Type 1} → statement M
 has-evidence-spec =
-    tie.close
-    (tie.spec
-    walk-requires
-    mark-area-requires
-    are-paths-requires
-    same-length
-    same-length-2
-    same-length-3
-    same-length-4
-    returns)
+    tie.close (tie.spec walk-requires mark-area-requires are-paths-requires same-length returns)

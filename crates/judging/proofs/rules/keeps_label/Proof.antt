@@ -1,39 +1,49 @@
 -- `keeps_label` meets its contract: the greatest label of the leaves, then p.
 use native.Mathlib.Omega.{arith}
 use mathlib.Core.Path.{refl}
-use Prim.Native.Nat.{_*_}
+use Prim.Native.Nat.{_+_, _*_}
 use denote.Ref.{now}
 use borrow.Author.Needs.{needs}
-use Rattle.judging.proofs.Kept.{rest-whole, depth-asked, label-unshown, label-at-peak, label-above}
+use borrow.Rule.Slice.PartAt.{part-to-end}
+use Rattle.judging.proofs.Kept.{depth-asked, label-unshown, label-at-peak, label-above}
 use Rattle.judging.proofs.rules.keeps_label.Statement.{statement}
 use Rattle.judging.proofs.rules.keeps_label.Tie as tie
 
-cast-v : tie.Need-cast-v
-cast-v c = search needs
+size-at-requires : tie.Need-size-at-requires
+size-at-requires c κs = omega (arith, c .before .before .pre .long)
+
+cast-from : tie.Need-cast-from
+cast-from c = search needs
 
 mul-from : tie.Need-mul-from
 mul-from c = search needs
 
-shared-slice-read-size : tie.Need-shared-slice-read-size
-shared-slice-read-size c = search needs
-
-cast-size : tie.Need-cast-size
-cast-size c = search needs
+add-from : tie.Need-add-from
+add-from c = search needs
 
 mul-depth : tie.Need-mul-depth
 mul-depth c = search needs
 
 sub-depth : tie.Need-sub-depth
-sub-depth c = search needs
+sub-depth c =
+    let start = c .before .before .before .before in
+    omega (arith, start .pre .long)
 
 part-depth-start : tie.Need-part-depth-start
-part-depth-start c = search needs
+part-depth-start c =
+    let start = c .before .before .before .before in
+    omega (arith, start .pre .long)
 
 part-depth-end : tie.Need-part-depth-end
 part-depth-end c = search needs
 
 depth-requires : tie.Need-depth-requires
-depth-requires c κs = let a = c .before .before .before .before .before .before .args in rw (rest-whole (now (a .leaves)) (6 * a .gate .id)) (depth-asked (c .before .before .before .before .before .before .pre))
+depth-requires c κs =
+    let start = c .before .before .before .before .before in
+    let size-at-here = c .before .before .size-at in
+    let asked = start .pre in
+    let a = start .args in
+    rw (part-to-end (now (a .cuts)) (7 * a .gate .id + 1), size-at-here .ensures) (depth-asked asked)
 
 label-of-requires : tie.Need-label-of-requires
 label-of-requires c κs = search needs
@@ -49,13 +59,34 @@ add-if1 c = search needs
 
 returns : tie.Need-returns
 returns c =
-    let a = c .before .before .before .before .before .before .before .before .before .before .before .args in
-    label-unshown (a .p .depth) (a .gate .id) (c .before .before .before .label-of .ensures) (rw (rest-whole (now (a .leaves)) (6 * a .gate .id)) at (c .before .before .before .before .depth .ensures)) (λ e. omega (arith, e, c .if1 .taken))
+    let after-label-of = c .before .before .before in
+    let after-depth = after-label-of .before in
+    let after-size-at = after-depth .before .before .before in
+    let start = after-size-at .before .before .before in
+    let label-of-here = after-label-of .label-of in
+    let depth-here = after-depth .depth in
+    let size-at-here = after-size-at .size-at in
+    let a = start .args in
+    let whole = part-to-end (now (a .cuts)) (7 * a .gate .id + 1) in
+    let greatest = rw (whole, size-at-here .ensures) at (depth-here .ensures) in
+    label-unshown (a .p .depth) (a .gate .id) (label-of-here .ensures) greatest (λ e. omega (arith, e, c .if1 .taken))
 
 returns-2 : tie.Need-returns-2
 returns-2 c =
-    let a = c .before .before .before .before .before .before .before .before .before .before .before .before .before .before .args in
-    label-at-peak (a .p .depth) (a .gate .id) (c .before .before .before .before .before .before .label-of .ensures) (rw (rest-whole (now (a .leaves)) (6 * a .gate .id)) at (c .before .before .before .before .before .before .before .depth .ensures)) (omega (arith, c .before .before .before .if1 .left)) (c .if2 .taken)
+    let else1 = c .before .before .before in
+    let after-label-of = else1 .before .before .before in
+    let after-depth = after-label-of .before in
+    let after-size-at = after-depth .before .before .before in
+    let start = after-size-at .before .before .before in
+    let if1-here = else1 .if1 in
+    let label-of-here = after-label-of .label-of in
+    let depth-here = after-depth .depth in
+    let size-at-here = after-size-at .size-at in
+    let a = start .args in
+    let whole = part-to-end (now (a .cuts)) (7 * a .gate .id + 1) in
+    let greatest = rw (whole, size-at-here .ensures) at (depth-here .ensures) in
+    label-at-peak (a .p .depth) (a .gate .id) (label-of-here .ensures) greatest (omega (arith, if1-here .left))
+    (c .if2 .taken)
 
 cast-result : tie.Need-cast-result
 cast-result c = search needs
@@ -68,17 +99,30 @@ add-result c = search needs
 
 returns-3 : tie.Need-returns-3
 returns-3 c =
-    let a = c .before .before .before .before .before .before .before .before .before .before .before .before .before .before .before .before .args in
-    label-above (a .p .depth) (a .gate .id) (c .before .before .before .before .before .before .before .before .label-of .ensures) (rw (rest-whole (now (a .leaves)) (6 * a .gate .id)) at (c .before .before .before .before .before .before .before .before .before .depth .ensures)) (omega (arith, c .before .before .before .before .before .if1 .left)) (c .before .before .if2 .left) refl
+    let else1 = c .before .before .before .before .before in
+    let after-label-of = else1 .before .before .before in
+    let after-depth = after-label-of .before in
+    let after-size-at = after-depth .before .before .before in
+    let start = after-size-at .before .before .before in
+    let if2-here = c .before .before .if2 in
+    let if1-here = else1 .if1 in
+    let label-of-here = after-label-of .label-of in
+    let depth-here = after-depth .depth in
+    let size-at-here = after-size-at .size-at in
+    let a = start .args in
+    let whole = part-to-end (now (a .cuts)) (7 * a .gate .id + 1) in
+    let greatest = rw (whole, size-at-here .ensures) at (depth-here .ensures) in
+    label-above (a .p .depth) (a .gate .id) (label-of-here .ensures) greatest (omega (arith, if1-here .left))
+    (if2-here .left) refl
 
 pub keeps-label-spec : {M : Type 1} → statement M
 keeps-label-spec =
     tie.close
     (tie.spec
-    cast-v
+    size-at-requires
+    cast-from
     mul-from
-    shared-slice-read-size
-    cast-size
+    add-from
     mul-depth
     sub-depth
     part-depth-start

@@ -7,29 +7,50 @@ use lib.Dec.{eqb}
 use denote.Ref.{now}
 use borrow.Author.Needs.{needs}
 use borrow.Author.Tests.{not-true, not-false}
+use Rattle.storage.proofs.Clears.{beyond-same}
 use Rattle.drawing.specs.Bytes.{numberAt}
-use Rattle.judging.specs.Gates.{pathsPlace, scratchOf}
+use Rattle.judging.specs.Gates.{pathsPlace}
 use Rattle.judging.proofs.Lines.{place-asks, q-inside-bytes}
-use Rattle.judging.proofs.Kept.{label-inside, evidence-asked, not-due-told, miscounted, due-told, beyond-same, q-read}
+use Rattle.judging.proofs.Kept.{label-inside, evidence-asked, not-due-told, miscounted, due-told, q-read}
 use Rattle.judging.proofs.rules.keeps_paths.Statement.{statement}
 use Rattle.judging.proofs.rules.keeps_paths.Tie as tie
 
 paths-place-requires : tie.Need-paths-place-requires
-paths-place-requires c κs = place-asks ((c .before .before .before .before .before .before .before .before .before .before .pre) .line)
+paths-place-requires c κs =
+    let start = c .before .before .before .before .before in
+    place-asks (start .pre .line)
 
 number-at-requires : tie.Need-number-at-requires
-number-at-requires c κs = (omega arith, rw (c .paths-place .ensures) (q-inside-bytes ((c .before .before .before .before .before .before .before .before .before .before .before .pre) .line)))
+number-at-requires c κs =
+    let start = c .before .before .before .before .before .before in
+    let asked = start .pre in
+    (omega arith, rw (c .paths-place .ensures) (q-inside-bytes (asked .line)))
 
 owes-requires : tie.Need-owes-requires
-owes-requires c κs = label-inside ((c .before .before .before .before .before .before .before .before .before .before .before .before .pre) .at-gate)
+owes-requires c κs =
+    let start = c .before .before .before .before .before .before .before in
+    label-inside (start .pre .at-gate)
 
 returns : tie.Need-returns
 returns c =
-    let a = c .before .before .before .before .before .before .before .before .before .before .before .before .before .before .args in let f = a .form in let s = now (a .sheet) in let place = pathsPlace f s (a .at) in
-    let q : c .before .before .number-at .result ≡ numberAt s place 1 = q-read s (c .before .before .before .paths-place .ensures) (c .before .before .number-at .ensures) in
+    let after-paths-place = c .before .before .before in
+    let start = after-paths-place .before .before .before .before .before .before in
+    let owes-here = c .before .owes in
+    let number-at-here = c .before .before .number-at in
+    let paths-place-here = after-paths-place .paths-place in
+    let asked = start .pre in
+    let a = start .args in
+    let s = now (a .sheet) in
+    let place = pathsPlace (a .form) s (a .at) in
+    let peak-known = asked .at-gate .peak-known in
+    let q : number-at-here .result ≡ numberAt s place 1 =
+    q-read s (paths-place-here .ensures) (number-at-here .ensures) in
+    let none = owes-here .ensures .no (not-true _ (c .if1 .taken)) in
     record {
-      reply = not-due-told (a .k .leaves) ((c .before .before .before .before .before .before .before .before .before .before .before .before .before .before .pre) .at-gate .peak-known) s (place + 1) (f .width) (numberAt s place 1) (c .before .owes .ensures .no (not-true _ (c .if1 .taken))) (ap (λ (n : ℕ). eqb n 0) q);
-      beyond = beyond-same (a .nodes) (scratchOf (now (a .walked)) (now (a .met)) (now (a .area)) (now (a .ends)));
+      reply =
+          not-due-told (a .numbers .k .leaves) peak-known s (place + 1) (a .form .width) (numberAt s place 1) none
+          (ap (λ (n : ℕ). eqb n 0) q);
+      rest = beyond-same (a .numbers .nodes) (now (a .roles));
     }
 
 cast-if2 : tie.Need-cast-if2
@@ -40,44 +61,87 @@ add-if2 c = search needs
 
 returns-2 : tie.Need-returns-2
 returns-2 c =
-    let a = c .before .before .before .before .before .before .before .before .before .before .before .before .before .before .before .before .args in let f = a .form in let s = now (a .sheet) in let place = pathsPlace f s (a .at) in
-    let q : c .before .before .before .before .number-at .result ≡ numberAt s place 1 = q-read s (c .before .before .before .before .before .paths-place .ensures) (c .before .before .before .before .number-at .ensures) in
+    let else1 = c .before .before .before in
+    let after-owes = else1 .before in
+    let after-number-at = after-owes .before in
+    let after-paths-place = after-number-at .before in
+    let start = after-paths-place .before .before .before .before .before .before in
+    let if1-here = else1 .if1 in
+    let owes-here = after-owes .owes in
+    let number-at-here = after-number-at .number-at in
+    let paths-place-here = after-paths-place .paths-place in
+    let asked = start .pre in
+    let a = start .args in
+    let s = now (a .sheet) in
+    let place = pathsPlace (a .form) s (a .at) in
+    let peak-known = asked .at-gate .peak-known in
+    let q : number-at-here .result ≡ numberAt s place 1 =
+    q-read s (paths-place-here .ensures) (number-at-here .ensures) in
+    let due = owes-here .ensures .yes (not-false _ (if1-here .left)) in
     record {
-      reply = miscounted (a .k .leaves) ((c .before .before .before .before .before .before .before .before .before .before .before .before .before .before .before .before .pre) .at-gate .peak-known) s (place + 1) (f .width) (numberAt s place 1) (c .before .before .before .owes .ensures .yes (not-false _ (c .before .before .if1 .left))) (λ e. c .if2 .taken (q ∙ e));
-      beyond = beyond-same (a .nodes) (scratchOf (now (a .walked)) (now (a .met)) (now (a .area)) (now (a .ends)));
+      reply =
+          miscounted (a .numbers .k .leaves) peak-known s (place + 1) (a .form .width) (numberAt s place 1) due
+          (λ e. c .if2 .taken (q ∙ e));
+      rest = beyond-same (a .numbers .nodes) (now (a .roles));
     }
 
 add-has-evidence : tie.Need-add-has-evidence
 add-has-evidence c =
-    let inside : c .before .before .before .before .before .paths-place .result + 1 ≤ length (now (c .before .before .before .before .before .before .before .before .before .before .before .before .before .before .before .before .args .sheet)) = rw (c .before .before .before .before .before .paths-place .ensures) (q-inside-bytes ((c .before .before .before .before .before .before .before .before .before .before .before .before .before .before .before .before .pre) .line)) in
-    omega (arith, c .before .before .before .before .before .before .before .before .before .before .before .before .before .before .before .before .good)
+    let after-paths-place = c .before .before .before .before .before .before in
+    let at-start = after-paths-place .before .before .before .before .before .before in
+    let a = at-start .args in
+    let asked = at-start .pre in
+    let start = at-start .good in
+    let place = after-paths-place .paths-place in
+    let inside : place .result + 1 ≤ length (now (a .sheet)) = rw (place .ensures) (q-inside-bytes (asked .line)) in
+    omega (arith, start)
 
 has-evidence-requires : tie.Need-has-evidence-requires
 has-evidence-requires c κs =
-    let a = c .before .before .before .before .before .before .before .before .before .before .before .before .before .before .before .before .before .before .before .before .args in let f = a .form in let s = now (a .sheet) in let place = pathsPlace f s (a .at) in
-    let q : c .before .before .before .before .before .before .before .before .number-at .result ≡ numberAt s place 1 = q-read s (c .before .before .before .before .before .before .before .before .before .paths-place .ensures) (c .before .before .before .before .before .before .before .before .number-at .ensures) in
-    rw (q, c .before .before .before .before .before .before .before .before .before .paths-place .ensures) (evidence-asked (c .before .before .before .before .before .before .before .before .before .before .before .before .before .before .before .before .before .before .before .before .pre))
+    let after-number-at = c .before .before .before .before .before .before in
+    let after-paths-place = after-number-at .before in
+    let start = after-paths-place .before .before .before .before .before .before in
+    let number-at-here = after-number-at .number-at in
+    let paths-place-here = after-paths-place .paths-place in
+    let asked = start .pre in
+    let a = start .args in
+    let s = now (a .sheet) in
+    let place = pathsPlace (a .form) s (a .at) in
+    let q : number-at-here .result ≡ numberAt s place 1 =
+    q-read s (paths-place-here .ensures) (number-at-here .ensures) in
+    rw (q, paths-place-here .ensures) (evidence-asked asked)
 
 same-length : tie.Need-same-length
 same-length c = search needs
 
-same-length-2 : tie.Need-same-length-2
-same-length-2 c = search needs
-
-same-length-3 : tie.Need-same-length-3
-same-length-3 c = search needs
-
-same-length-4 : tie.Need-same-length-4
-same-length-4 c = search needs
-
 returns-3 : tie.Need-returns-3
 returns-3 c =
-    let a = c .before .before .before .before .before .before .before .before .before .before .before .before .before .before .before .before .before .before .before .before .before .before .before .before .before .before .before .before .before .args in let f = a .form in let s = now (a .sheet) in let place = pathsPlace f s (a .at) in
-    let q : c .before .before .before .before .before .before .before .before .before .before .before .before .before .before .before .before .before .number-at .result ≡ numberAt s place 1 = q-read s (c .before .before .before .before .before .before .before .before .before .before .before .before .before .before .before .before .before .before .paths-place .ensures) (c .before .before .before .before .before .before .before .before .before .before .before .before .before .before .before .before .before .number-at .ensures) in
-    let told = rw (q, c .before .before .before .before .before .before .before .before .before .before .before .before .before .before .before .before .before .before .paths-place .ensures) at (c .before .before .before .before .before .before .before .before .has-evidence .ensures) in
+    let else2 = c .before .before .before .before in
+    let else1 = else2 .before .before .before in
+    let after-owes = else1 .before in
+    let after-number-at = after-owes .before in
+    let after-paths-place = after-number-at .before in
+    let start = after-paths-place .before .before .before .before .before .before in
+    let has-evidence-here = c .before .before .has-evidence in
+    let if2-here = else2 .if2 in
+    let if1-here = else1 .if1 in
+    let owes-here = after-owes .owes in
+    let number-at-here = after-number-at .number-at in
+    let paths-place-here = after-paths-place .paths-place in
+    let asked = start .pre in
+    let a = start .args in
+    let s = now (a .sheet) in
+    let place = pathsPlace (a .form) s (a .at) in
+    let peak-known = asked .at-gate .peak-known in
+    let q : number-at-here .result ≡ numberAt s place 1 =
+    q-read s (paths-place-here .ensures) (number-at-here .ensures) in
+    let told = rw (q, paths-place-here .ensures) at (has-evidence-here .ensures) in
+    let due = owes-here .ensures .yes (not-false _ (if1-here .left)) in
     record {
-      reply = due-told (a .k .leaves) ((c .before .before .before .before .before .before .before .before .before .before .before .before .before .before .before .before .before .before .before .before .before .before .before .before .before .before .before .before .before .pre) .at-gate .peak-known) s (place + 1) (f .width) (numberAt s place 1) (c .before .before .before .before .before .before .before .before .before .before .before .before .before .before .before .before .owes .ensures .yes (not-false _ (c .before .before .before .before .before .before .before .before .before .before .before .before .before .before .before .if1 .left))) (sym q ∙ c .before .before .before .before .before .before .before .before .before .before .before .before .before .if2 .left) (told .reply);
-      beyond = told .beyond;
+      reply =
+          due-told (a .numbers .k .leaves) peak-known s (place + 1) (a .form .width) (numberAt s place 1) due
+          (sym q ∙ if2-here .left) (told .reply);
+      rest = told .rest;
     }
 
 pub keeps-paths-spec : {M : Type 1} → statement M
@@ -94,7 +158,4 @@ keeps-paths-spec =
     add-has-evidence
     has-evidence-requires
     same-length
-    same-length-2
-    same-length-3
-    same-length-4
     returns-3)

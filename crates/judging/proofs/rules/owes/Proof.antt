@@ -3,8 +3,8 @@ use native.Mathlib.Omega.{arith}
 use mathlib.Core.Path.{_≡_, refl}
 use Prim.Native.Nat.{_+_}
 use borrow.Author.Needs.{needs}
+use Rattle.storage.proofs.InMarks.{tells-no}
 use Rattle.theory.proofs.Tests.{decides-as, decides-equal}
-use Rattle.walking.proofs.Tests.{tells-no}
 use Rattle.judging.proofs.Kept.{tells-decided}
 use Rattle.judging.proofs.rules.owes.Statement.{statement}
 use Rattle.judging.proofs.rules.owes.Tie as tie
@@ -26,12 +26,14 @@ add-result c = search needs
 
 returns-2 : tie.Need-returns-2
 returns-2 c =
-    let a = c .before .before .before .before .before .before .args in
+    let else1 = c .before .before .before in
+    let start = else1 .before .before .before in
+    let p = start .args .p .depth in
+    let label = c .before .before .label-of in
     tells-decided
     (decides-as
-    (λ (e : c .before .before .label-of .result .depth ≡ a .p .depth + 1). (omega (arith, c .before .before .label-of .ensures), omega (arith, c .before .before .before .if1 .left)))
-    (λ due. omega (arith, c .before .before .label-of .ensures, due .0))
-    (decides-equal (c .before .before .label-of .result .depth) (a .p .depth + 1)))
+    (λ (e : label .result .depth ≡ p + 1). (omega (arith, label .ensures), omega (arith, else1 .if1 .left)))
+    (λ due. omega (arith, label .ensures, due .0)) (decides-equal (label .result .depth) (p + 1)))
     refl
 
 pub owes-spec : {M : Type 1} → statement M

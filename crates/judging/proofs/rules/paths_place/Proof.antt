@@ -19,15 +19,20 @@ add-result : tie.Need-add-result
 add-result c = search needs
 
 mul-result : tie.Need-mul-result
-mul-result c = let same = ap (λ (n : ℕ). n * c .before .before .args .form .width) (c .number-at .ensures) in omega (arith, (c .before .before .pre) .1)
+mul-result c =
+    let same = ap (λ (n : ℕ). n * c .before .before .args .form .width) (c .number-at .ensures) in
+    omega (arith, c .before .before .pre .1)
 
 add-result-2 : tie.Need-add-result-2
-add-result-2 c = let same = ap (λ (n : ℕ). n * c .before .before .args .form .width) (c .number-at .ensures) in omega (arith, (c .before .before .pre) .1)
+add-result-2 c =
+    let same = ap (λ (n : ℕ). n * c .before .before .args .form .width) (c .number-at .ensures) in
+    omega (arith, c .before .before .pre .1)
 
 returns : tie.Need-returns
-returns c = let same = ap (λ (n : ℕ). n * c .before .before .args .form .width) (c .number-at .ensures) in omega (arith, (c .before .before .pre) .1)
+returns c =
+    let same = ap (λ (n : ℕ). n * c .before .before .args .form .width) (c .number-at .ensures) in
+    omega (arith, c .before .before .pre .1)
 
 pub paths-place-spec : {M : Type 1} → statement M
 paths-place-spec =
-    tie.close
-    (tie.spec add-cut add-cut-2 number-at-requires add-result mul-result add-result-2 returns)
+    tie.close (tie.spec add-cut add-cut-2 number-at-requires add-result mul-result add-result-2 returns)

@@ -15,28 +15,38 @@ cast-put-named c = search needs
 
 put-named-requires : tie.Need-put-named-requires
 unfolding headLine
-put-named-requires c κs = omega (arith, simp length-append at (c .before .before .before .before .pre))
+put-named-requires c κs =
+    let start = c .before .before .before .before in
+    omega (arith, simp length-append at (start .pre))
 
 slice-aggregate-put-named-2 : tie.Need-slice-aggregate-put-named-2
 slice-aggregate-put-named-2 c = search needs
 
 put-named-requires-2 : tie.Need-put-named-requires-2
 unfolding headLine
-put-named-requires-2 c κs = omega (arith, simp length-append at (c .before .before .before .before .before .before .before .before .before .pre))
+put-named-requires-2 c κs =
+    let start = c .before .before .before .before .before .before .before .before .before in
+    omega (arith, simp length-append at (start .pre))
 
 slice-aggregate-put-named-3 : tie.Need-slice-aggregate-put-named-3
 slice-aggregate-put-named-3 c = search needs
 
 put-named-requires-3 : tie.Need-put-named-requires-3
 unfolding headLine
-put-named-requires-3 c κs = omega (arith, simp length-append at (c .before .before .before .before .before .before .before .before .before .before .before .before .before .before .pre))
+put-named-requires-3 c κs =
+    let start = c .before .before .before .before .before .before .before .before .before .before .before .before
+    .before .before in
+    omega (arith, simp length-append at (start .pre))
 
 slice-aggregate-put-named-4 : tie.Need-slice-aggregate-put-named-4
 slice-aggregate-put-named-4 c = search needs
 
 put-named-requires-4 : tie.Need-put-named-requires-4
 unfolding headLine
-put-named-requires-4 c κs = omega (arith, simp length-append at (c .before .before .before .before .before .before .before .before .before .before .before .before .before .before .before .before .before .before .before .pre))
+put-named-requires-4 c κs =
+    let start = c .before .before .before .before .before .before .before .before .before .before .before .before
+    .before .before .before .before .before .before .before in
+    omega (arith, simp length-append at (start .pre))
 
 slice-aggregate-put-named-5 : tie.Need-slice-aggregate-put-named-5
 slice-aggregate-put-named-5 c = search needs
@@ -46,18 +56,41 @@ cast-put-named-2 c = search needs
 
 put-named-requires-5 : tie.Need-put-named-requires-5
 unfolding headLine
-put-named-requires-5 c κs = omega (arith, simp length-append at (c .before .before .before .before .before .before .before .before .before .before .before .before .before .before .before .before .before .before .before .before .before .before .before .before .before .pre))
+put-named-requires-5 c κs =
+    let start = c .before .before .before .before .before .before .before .before .before .before .before .before
+    .before .before .before .before .before .before .before .before .before .before .before .before .before in
+    omega (arith, simp length-append at (start .pre))
 
 end-line-requires : tie.Need-end-line-requires
 unfolding headLine
-end-line-requires c κs = omega (arith, simp length-append at (c .before .before .before .before .before .before .before .before .before .before .before .before .before .before .before .before .before .before .before .before .before .before .before .before .before .before .before .before .before .pre))
+end-line-requires c κs =
+    omega (
+      arith,
+      simp length-append at
+          (c .before .before .before .before .before .before .before .before .before .before .before .before .before
+          .before .before .before .before .before .before .before .before .before .before .before .before .before
+          .before .before .before .pre),
+    )
 
 same-length : tie.Need-same-length
 same-length c = search needs
 
 returns : tie.Need-returns
 unfolding headLine
-returns c = put-then (put-then (put-then (put-then (put-then (c .before .before .before .before .before .before .before .before .before .before .before .before .before .before .before .before .before .before .before .before .before .before .before .before .before .before .before .put-named .ensures) (c .before .before .before .before .before .before .before .before .before .before .before .before .before .before .before .before .before .before .before .before .before .before .put-named2 .ensures)) (c .before .before .before .before .before .before .before .before .before .before .before .before .before .before .before .before .before .put-named3 .ensures)) (c .before .before .before .before .before .before .before .before .before .before .before .before .put-named4 .ensures)) (c .before .before .before .before .before .before .put-named5 .ensures)) (c .before .before .end-line .ensures)
+returns c =
+    let after-put-named5 = c .before .before .before .before .before .before in
+    let after-put-named4 = after-put-named5 .before .before .before .before .before .before in
+    let after-put-named3 = after-put-named4 .before .before .before .before .before in
+    let after-put-named2 = after-put-named3 .before .before .before .before .before in
+    let after-put-named = after-put-named2 .before .before .before .before .before in
+    put-then
+    (put-then
+    (put-then
+    (put-then (put-then (after-put-named .put-named .ensures) (after-put-named2 .put-named2 .ensures))
+    (after-put-named3 .put-named3 .ensures))
+    (after-put-named4 .put-named4 .ensures))
+    (after-put-named5 .put-named5 .ensures))
+    (c .before .before .end-line .ensures)
 
 pub put-head-spec : {M : Type 1} → statement M
 put-head-spec =

@@ -12,7 +12,9 @@ cast-put-named c = search needs
 
 put-named-requires : tie.Need-put-named-requires
 unfolding leafText
-put-named-requires c κs = c .before .before .before .before .pre
+put-named-requires c κs =
+    let start = c .before .before .before .before in
+    start .pre
 
 same-length : tie.Need-same-length
 same-length c = search needs

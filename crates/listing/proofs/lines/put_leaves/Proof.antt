@@ -11,7 +11,8 @@ use Rattle.listing.proofs.lines.put_leaves.Statement.{statement}
 use Rattle.listing.proofs.lines.put_leaves.Tie as tie
 
 abbrev Inv-loop : tie.InvT-loop
-Inv-loop leaves text₀ at next₀ i₀ text next i = (i ≤ length leaves) × Left text₀ at (each leafText leaves) text next (each leafText (drop i leaves))
+Inv-loop leaves text₀ at next₀ i₀ text next i =
+    (i ≤ length leaves) × Left text₀ at (each leafText leaves) text next (each leafText (drop i leaves))
 
 abbrev μ-loop : tie.MeasureT-loop
 μ-loop leaves text₀ at next₀ i₀ text next i = length leaves - i
@@ -26,7 +27,10 @@ shared-slice-read-t9 : tie.Need-shared-slice-read-t9 Inv-loop μ-loop
 shared-slice-read-t9 c = omega arith
 
 put-leaf-requires : tie.Need-put-leaf-requires Inv-loop μ-loop
-put-leaf-requires c κs = each-room leafText (now (c .before .before .before .before .before .before .args .leaves)) (c .before .before .before .loop .inv .1) (c .before .before .loop-test .taken) refl
+put-leaf-requires c κs =
+    let at-loop = c .before .before .before in
+    let start = at-loop .before .before .before in
+    each-room leafText (now (start .args .leaves)) (at-loop .loop .inv .1) (c .before .before .loop-test .taken) refl
 
 add-i : tie.Need-add-i Inv-loop μ-loop
 add-i c = omega arith
@@ -35,13 +39,22 @@ loop-less : tie.Need-loop-less Inv-loop μ-loop
 loop-less c = omega arith
 
 loop-again : tie.Need-loop-again Inv-loop μ-loop
-loop-again c = (omega arith, each-turn leafText (now (c .before .before .before .before .before .before .before .before .before .args .leaves)) (c .before .before .before .before .before .before .loop .inv .1) (c .before .before .before .before .before .loop-test .taken) refl (c .before .before .put-leaf .ensures))
+loop-again c =
+    let in-loop = c .before .before .before .before .before in
+    let at-loop = in-loop .before in
+    let start = at-loop .before .before .before in (
+      omega arith,
+      each-turn leafText (now (start .args .leaves)) (at-loop .loop .inv .1) (in-loop .loop-test .taken) refl
+          (c .before .before .put-leaf .ensures),
+    )
 
 same-length : tie.Need-same-length Inv-loop μ-loop
 same-length c = c .before .loop .inv .1 .size
 
 returns : tie.Need-returns Inv-loop μ-loop
-returns c = each-end leafText (now (c .before .before .before .before .args .leaves)) (c .before .loop .inv .1) (c .loop-test .left)
+returns c =
+    let start = c .before .before .before .before in
+    each-end leafText (now (start .args .leaves)) (c .before .loop .inv .1) (c .loop-test .left)
 
 pub put-leaves-spec : {M : Type 1} → statement M
 put-leaves-spec =

@@ -11,20 +11,17 @@ cast-v c = search needs
 mul-first : tie.Need-mul-first
 mul-first c = search needs
 
-shared-slice-read-end : tie.Need-shared-slice-read-end
-shared-slice-read-end c = search needs
+add-first : tie.Need-add-first
+add-first c = search needs
 
-cast-end : tie.Need-cast-end
-cast-end c = search needs
+size-at-requires : tie.Need-size-at-requires
+size-at-requires c κs = search needs
 
 add-end : tie.Need-add-end
 add-end c = search needs
 
-mul-t14 : tie.Need-mul-t14
-mul-t14 c = search needs
-
-shared-slice-read-t16 : tie.Need-shared-slice-read-t16
-shared-slice-read-t16 c = search needs
+label-of-requires : tie.Need-label-of-requires
+label-of-requires c κs = search needs
 
 mul-put-lut-line : tie.Need-mul-put-lut-line
 mul-put-lut-line c = search needs
@@ -45,13 +42,29 @@ shared-slice-read-put-lut-line : tie.Need-shared-slice-read-put-lut-line
 shared-slice-read-put-lut-line c = search needs
 
 put-lut-line-requires : tie.Need-put-lut-line-requires
-put-lut-line-requires c κs = rw (lut-part (now (c .before .before .before .before .before .before .before .before .before .before .before .args .labels)) (now (c .before .before .before .before .before .before .before .before .before .before .before .args .leaves)) (now (c .before .before .before .before .before .before .before .before .before .before .before .args .sizes)) (now (c .before .before .before .before .before .before .before .before .before .before .before .args .tables)) (c .before .before .before .before .before .before .before .before .before .before .before .args .root .id)) at (c .before .before .before .before .before .before .before .before .before .before .before .pre .1)
+put-lut-line-requires c κs =
+    let after-label-of = c .before .before .before in
+    let after-size-at = after-label-of .before in
+    let start = after-size-at .before .before .before .before .before .before in
+    let a = start .args in
+    rw
+    (lut-part (now (a .labels)) (now (a .cuts)) (now (a .tables)) (a .root .id) (after-label-of .label-of .ensures)
+    (after-size-at .size-at .ensures))
+    at (start .pre .1)
 
 same-length : tie.Need-same-length
 same-length c = search needs
 
 returns : tie.Need-returns
-returns c = rw (lut-part (now (c .before .before .before .before .before .before .before .before .before .before .before .before .before .before .args .labels)) (now (c .before .before .before .before .before .before .before .before .before .before .before .before .before .before .args .leaves)) (now (c .before .before .before .before .before .before .before .before .before .before .before .before .before .before .args .sizes)) (now (c .before .before .before .before .before .before .before .before .before .before .before .before .before .before .args .tables)) (c .before .before .before .before .before .before .before .before .before .before .before .before .before .before .args .root .id)) (c .before .before .put-lut-line .ensures)
+returns c =
+    let after-label-of = c .before .before .before .before .before .before in
+    let after-size-at = after-label-of .before in
+    let start = after-size-at .before .before .before .before .before .before in
+    let a = start .args in
+    rw
+    (lut-part (now (a .labels)) (now (a .cuts)) (now (a .tables)) (a .root .id) (after-label-of .label-of .ensures)
+    (after-size-at .size-at .ensures))
+    (c .before .before .put-lut-line .ensures)
 
 pub put-lut-spec : {M : Type 1} → statement M
 put-lut-spec =
@@ -59,11 +72,10 @@ put-lut-spec =
     (tie.spec
     cast-v
     mul-first
-    shared-slice-read-end
-    cast-end
+    add-first
+    size-at-requires
     add-end
-    mul-t14
-    shared-slice-read-t16
+    label-of-requires
     mul-put-lut-line
     sub-put-lut-line
     part-put-lut-line-start

@@ -15,7 +15,9 @@ cast-put-named c = search needs
 
 put-named-requires : tie.Need-put-named-requires
 unfolding lutLine
-put-named-requires c κs = omega (arith, simp length-append at (c .before .before .before .before .before .pre))
+put-named-requires c κs =
+    let start = c .before .before .before .before .before in
+    omega (arith, simp length-append at (start .pre))
 
 slice-aggregate-put-named-2 : tie.Need-slice-aggregate-put-named-2
 slice-aggregate-put-named-2 c = search needs
@@ -25,40 +27,81 @@ cast-put-named-2 c = search needs
 
 put-named-requires-2 : tie.Need-put-named-requires-2
 unfolding lutLine
-put-named-requires-2 c κs = omega (arith, simp length-append at (c .before .before .before .before .before .before .before .before .before .before .before .pre))
+put-named-requires-2 c κs =
+    let start = c .before .before .before .before .before .before .before .before .before .before .before in
+    omega (arith, simp length-append at (start .pre))
 
 slice-aggregate-put-word : tie.Need-slice-aggregate-put-word
 slice-aggregate-put-word c = search needs
 
 put-word-requires : tie.Need-put-word-requires
 unfolding lutLine
-put-word-requires c κs = omega (arith, simp length-append at (c .before .before .before .before .before .before .before .before .before .before .before .before .before .before .before .before .pre))
+put-word-requires c κs =
+    let start = c .before .before .before .before .before .before .before .before .before .before .before .before
+    .before .before .before .before in
+    omega (arith, simp length-append at (start .pre))
 
 put-leaves-requires : tie.Need-put-leaves-requires
 unfolding lutLine
-put-leaves-requires c κs = omega (arith, simp length-append at (c .before .before .before .before .before .before .before .before .before .before .before .before .before .before .before .before .before .before .before .before .pre))
+put-leaves-requires c κs =
+    let start = c .before .before .before .before .before .before .before .before .before .before .before .before
+    .before .before .before .before .before .before .before .before in
+    omega (arith, simp length-append at (start .pre))
 
 slice-aggregate-put-word-2 : tie.Need-slice-aggregate-put-word-2
 slice-aggregate-put-word-2 c = search needs
 
 put-word-requires-2 : tie.Need-put-word-requires-2
 unfolding lutLine
-put-word-requires-2 c κs = omega (arith, simp length-append at (c .before .before .before .before .before .before .before .before .before .before .before .before .before .before .before .before .before .before .before .before .before .before .before .before .before .pre))
+put-word-requires-2 c κs =
+    let start = c .before .before .before .before .before .before .before .before .before .before .before .before
+    .before .before .before .before .before .before .before .before .before .before .before .before .before in
+    omega (arith, simp length-append at (start .pre))
 
 put-hex16-requires : tie.Need-put-hex16-requires
 unfolding lutLine
-put-hex16-requires c κs = omega (arith, simp length-append at (c .before .before .before .before .before .before .before .before .before .before .before .before .before .before .before .before .before .before .before .before .before .before .before .before .before .before .before .before .before .pre))
+put-hex16-requires c κs =
+    omega (
+      arith,
+      simp length-append at
+          (c .before .before .before .before .before .before .before .before .before .before .before .before .before
+          .before .before .before .before .before .before .before .before .before .before .before .before .before
+          .before .before .before .pre),
+    )
 
 end-line-requires : tie.Need-end-line-requires
 unfolding lutLine
-end-line-requires c κs = omega (arith, simp length-append at (c .before .before .before .before .before .before .before .before .before .before .before .before .before .before .before .before .before .before .before .before .before .before .before .before .before .before .before .before .before .before .before .before .before .pre))
+end-line-requires c κs =
+    omega (
+      arith,
+      simp length-append at
+          (c .before .before .before .before .before .before .before .before .before .before .before .before .before
+          .before .before .before .before .before .before .before .before .before .before .before .before .before
+          .before .before .before .before .before .before .before .pre),
+    )
 
 same-length : tie.Need-same-length
 same-length c = search needs
 
 returns : tie.Need-returns
 unfolding lutLine
-returns c = put-then (put-then (put-then (put-then (put-then (put-then (c .before .before .before .before .before .before .before .before .before .before .before .before .before .before .before .before .before .before .before .before .before .before .before .before .before .before .before .before .before .before .put-named .ensures) (c .before .before .before .before .before .before .before .before .before .before .before .before .before .before .before .before .before .before .before .before .before .before .before .before .put-named2 .ensures)) (c .before .before .before .before .before .before .before .before .before .before .before .before .before .before .before .before .before .before .before .put-word .ensures)) (c .before .before .before .before .before .before .before .before .before .before .before .before .before .before .before .put-leaves .ensures)) (c .before .before .before .before .before .before .before .before .before .before .put-word2 .ensures)) (c .before .before .before .before .before .before .put-hex16 .ensures)) (c .before .before .end-line .ensures)
+returns c =
+    let after-put-hex16 = c .before .before .before .before .before .before in
+    let after-put-word2 = after-put-hex16 .before .before .before .before in
+    let after-put-leaves = after-put-word2 .before .before .before .before .before in
+    let after-put-word = after-put-leaves .before .before .before .before in
+    let after-put-named2 = after-put-word .before .before .before .before .before in
+    let after-put-named = after-put-named2 .before .before .before .before .before .before in
+    put-then
+    (put-then
+    (put-then
+    (put-then
+    (put-then (put-then (after-put-named .put-named .ensures) (after-put-named2 .put-named2 .ensures))
+    (after-put-word .put-word .ensures))
+    (after-put-leaves .put-leaves .ensures))
+    (after-put-word2 .put-word2 .ensures))
+    (after-put-hex16 .put-hex16 .ensures))
+    (c .before .before .end-line .ensures)
 
 pub put-lut-line-spec : {M : Type 1} → statement M
 put-lut-line-spec =

@@ -15,7 +15,9 @@ cast-put-named c = search needs
 
 put-named-requires : tie.Need-put-named-requires
 unfolding outputLine
-put-named-requires c κs = omega (arith, simp length-append at (c .before .before .before .before .pre))
+put-named-requires c κs =
+    let start = c .before .before .before .before in
+    omega (arith, simp length-append at (start .pre))
 
 slice-aggregate-put-named-2 : tie.Need-slice-aggregate-put-named-2
 slice-aggregate-put-named-2 c = search needs
@@ -25,18 +27,27 @@ cast-put-named-2 c = search needs
 
 put-named-requires-2 : tie.Need-put-named-requires-2
 unfolding outputLine
-put-named-requires-2 c κs = omega (arith, simp length-append at (c .before .before .before .before .before .before .before .before .before .before .pre))
+put-named-requires-2 c κs =
+    let start = c .before .before .before .before .before .before .before .before .before .before in
+    omega (arith, simp length-append at (start .pre))
 
 end-line-requires : tie.Need-end-line-requires
 unfolding outputLine
-end-line-requires c κs = omega (arith, simp length-append at (c .before .before .before .before .before .before .before .before .before .before .before .before .before .before .pre))
+end-line-requires c κs =
+    let start = c .before .before .before .before .before .before .before .before .before .before .before .before
+    .before .before in
+    omega (arith, simp length-append at (start .pre))
 
 same-length : tie.Need-same-length
 same-length c = search needs
 
 returns : tie.Need-returns
 unfolding outputLine
-returns c = put-then (put-then (c .before .before .before .before .before .before .before .before .before .before .before .before .put-named .ensures) (c .before .before .before .before .before .before .put-named2 .ensures)) (c .before .before .end-line .ensures)
+returns c =
+    let after-put-named2 = c .before .before .before .before .before .before in
+    let after-put-named = after-put-named2 .before .before .before .before .before .before in
+    put-then (put-then (after-put-named .put-named .ensures) (after-put-named2 .put-named2 .ensures))
+    (c .before .before .end-line .ensures)
 
 pub put-output-line-spec : {M : Type 1} → statement M
 put-output-line-spec =

@@ -11,13 +11,18 @@ use Rattle.listing.proofs.lines.put_outputs.Statement.{statement}
 use Rattle.listing.proofs.lines.put_outputs.Tie as tie
 
 abbrev Inv-loop : tie.InvT-loop
-Inv-loop labels outputs number text₀ at next₀ i₀ text next i = (i ≤ number) × Left text₀ at (each (outputText labels) (take number outputs)) text next (each (outputText labels) (drop i (take number outputs)))
+Inv-loop labels outputs number text₀ at next₀ i₀ text next i =
+    (i ≤ number)
+    × Left text₀ at (each (outputText labels) (take number outputs)) text next
+    (each (outputText labels) (drop i (take number outputs)))
 
 abbrev μ-loop : tie.MeasureT-loop
 μ-loop labels outputs number text₀ at next₀ i₀ text next i = number - i
 
 loop-holds : tie.Need-loop-holds Inv-loop μ-loop
-loop-holds c = (omega arith, left-start _ _ _ (c .before .before .before .pre .1 .1))
+loop-holds c =
+    let start = c .before .before .before in
+    (omega arith, left-start _ _ _ (start .pre .1 .1))
 
 mul-t9 : tie.Need-mul-t9 Inv-loop μ-loop
 mul-t9 c = omega arith
@@ -27,8 +32,14 @@ shared-slice-read-t11 c = omega arith
 
 put-output-requires : tie.Need-put-output-requires Inv-loop μ-loop
 put-output-requires c κs =
-    let entry = part-entry (now (c .before .before .before .before .before .before .before .args .outputs)) (c .before .before .before .before .before .before .before .args .number) (c .before .before .before .loop .i) (c .before .before .loop-test .taken) (c .before .before .before .before .before .before .before .pre .0) in
-    (c .before .before .before .before .before .before .before .pre .1 .0 (c .before .before .before .loop .i) (c .before .before .loop-test .taken), each-room (outputText (now (c .before .before .before .before .before .before .before .args .labels))) (take (c .before .before .before .before .before .before .before .args .number) (now (c .before .before .before .before .before .before .before .args .outputs))) (c .before .before .before .loop .inv .1) (entry .0) (entry .1))
+    let at-loop = c .before .before .before in
+    let start = at-loop .before .before .before .before in
+    let entry = part-entry (now (start .args .outputs)) (start .args .number) (at-loop .loop .i)
+    (c .before .before .loop-test .taken) (start .pre .0) in (
+      start .pre .1 .0 (at-loop .loop .i) (c .before .before .loop-test .taken),
+      each-room (outputText (now (start .args .labels))) (take (start .args .number) (now (start .args .outputs)))
+          (at-loop .loop .inv .1) (entry .0) (entry .1),
+    )
 
 add-i : tie.Need-add-i Inv-loop μ-loop
 add-i c = omega arith
@@ -38,14 +49,25 @@ loop-less c = omega arith
 
 loop-again : tie.Need-loop-again Inv-loop μ-loop
 loop-again c =
-    let entry = part-entry (now (c .before .before .before .before .before .before .before .before .before .before .args .outputs)) (c .before .before .before .before .before .before .before .before .before .before .args .number) (c .before .before .before .before .before .before .loop .i) (c .before .before .before .before .before .loop-test .taken) (c .before .before .before .before .before .before .before .before .before .before .pre .0) in
-    (omega arith, each-turn (outputText (now (c .before .before .before .before .before .before .before .before .before .before .args .labels))) (take (c .before .before .before .before .before .before .before .before .before .before .args .number) (now (c .before .before .before .before .before .before .before .before .before .before .args .outputs))) (c .before .before .before .before .before .before .loop .inv .1) (entry .0) (entry .1) (c .before .before .put-output .ensures))
+    let in-loop = c .before .before .before .before .before in
+    let at-loop = in-loop .before in
+    let start = at-loop .before .before .before .before in
+    let entry = part-entry (now (start .args .outputs)) (start .args .number) (at-loop .loop .i)
+    (in-loop .loop-test .taken) (start .pre .0) in (
+      omega arith,
+      each-turn (outputText (now (start .args .labels))) (take (start .args .number) (now (start .args .outputs)))
+          (at-loop .loop .inv .1) (entry .0) (entry .1) (c .before .before .put-output .ensures),
+    )
 
 same-length : tie.Need-same-length Inv-loop μ-loop
 same-length c = c .before .loop .inv .1 .size
 
 returns : tie.Need-returns Inv-loop μ-loop
-returns c = each-end (outputText (now (c .before .before .before .before .before .args .labels))) (take (c .before .before .before .before .before .args .number) (now (c .before .before .before .before .before .args .outputs))) (c .before .loop .inv .1) (part-passed (now (c .before .before .before .before .before .args .outputs)) (c .before .before .before .before .before .args .number) (c .before .loop .i) (c .loop-test .left))
+returns c =
+    let start = c .before .before .before .before .before in
+    each-end (outputText (now (start .args .labels))) (take (start .args .number) (now (start .args .outputs)))
+    (c .before .loop .inv .1)
+    (part-passed (now (start .args .outputs)) (start .args .number) (c .before .loop .i) (c .loop-test .left))
 
 pub put-outputs-spec : {M : Type 1} → statement M
 put-outputs-spec =

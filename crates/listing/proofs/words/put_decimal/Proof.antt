@@ -10,14 +10,18 @@ places-of-requires : tie.Need-places-of-requires
 places-of-requires c κs = search needs
 
 put-digits-requires : tie.Need-put-digits-requires
-put-digits-requires c κs = (omega arith, omega (arith, decimal-size (c .before .before .before .args .n)))
+put-digits-requires c κs =
+    let start = c .before .before .before in
+    (omega arith, omega (arith, decimal-size (start .args .n)))
 
 same-length : tie.Need-same-length
 same-length c = search needs
 
 returns : tie.Need-returns
 unfolding decimal
-returns c = rw (c .before .before .before .before .places-of .ensures) at (c .before .before .put-digits .ensures)
+returns c =
+    let after-places-of = c .before .before .before .before in
+    rw (after-places-of .places-of .ensures) at (c .before .before .put-digits .ensures)
 
 pub put-decimal-spec : {M : Type 1} → statement M
 put-decimal-spec = tie.close (tie.spec places-of-requires put-digits-requires same-length returns)

@@ -10,7 +10,10 @@ use Rattle.listing.proofs.words.put_digits.Statement.{statement}
 use Rattle.listing.proofs.words.put_digits.Tie as tie
 
 abbrev Inv-loop : tie.InvT-loop
-Inv-loop n base count text₀ at rest₀ i₀ text rest i = (i ≤ count) × (length text ≡ length text₀) × (sets text at (digits base i rest) ≡ sets text₀ at (digits base count n))
+Inv-loop n base count text₀ at rest₀ i₀ text rest i =
+    (i ≤ count)
+    × (length text ≡ length text₀)
+    × (sets text at (digits base i rest) ≡ sets text₀ at (digits base count n))
 
 abbrev μ-loop : tie.MeasureT-loop
 μ-loop n base count text₀ at rest₀ i₀ text rest i = i
@@ -25,7 +28,9 @@ rem-digit-byte : tie.Need-rem-digit-byte Inv-loop μ-loop
 rem-digit-byte c = omega arith
 
 digit-byte-requires : tie.Need-digit-byte-requires Inv-loop μ-loop
-digit-byte-requires c κs = remainder-small (c .before .loop .rest) (c .before .before .before .args .base) (c .before .before .before .pre .0 .0) (c .before .before .before .pre .0 .1)
+digit-byte-requires c κs =
+    let start = c .before .before .before in
+    remainder-small (c .before .loop .rest) (start .args .base) (start .pre .0 .0) (start .pre .0 .1)
 
 add-text : tie.Need-add-text Inv-loop μ-loop
 add-text c = omega arith
@@ -41,7 +46,8 @@ loop-less c = omega arith
 
 loop-again : tie.Need-loop-again Inv-loop μ-loop
 loop-again c =
-    let a = c .before .before .before .before .args in
+    let start = c .before .before .before .before in
+    let a = start .args in
     let s = c .before .before .loop in
     let before : suc (s .i - 1) ≡ s .i = omega arith in (
       omega arith,
@@ -60,7 +66,8 @@ same-length c = c .before .loop .inv .1
 returns : tie.Need-returns Inv-loop μ-loop
 unfolding digits
 returns c =
-    let a = c .before .before .before .args in
+    let start = c .before .before .before in
+    let a = start .args in
     let s = c .before .loop in
     let none : s .i ≡ 0 = omega arith in
     record {

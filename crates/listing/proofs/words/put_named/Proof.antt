@@ -10,18 +10,24 @@ use Rattle.listing.proofs.words.put_named.Tie as tie
 
 put-word-requires : tie.Need-put-word-requires
 unfolding numbered
-put-word-requires c κs = omega (arith, length-append (now (c .before .before .before .args .word)) (decimal (c .before .before .before .args .n)))
+put-word-requires c κs =
+    let start = c .before .before .before in
+    omega (arith, length-append (now (start .args .word)) (decimal (start .args .n)))
 
 put-decimal-requires : tie.Need-put-decimal-requires
 unfolding numbered
-put-decimal-requires c κs = omega (arith, length-append (now (c .before .before .before .before .before .before .before .args .word)) (decimal (c .before .before .before .before .before .before .before .args .n)))
+put-decimal-requires c κs =
+    let start = c .before .before .before .before .before .before .before in
+    omega (arith, length-append (now (start .args .word)) (decimal (start .args .n)))
 
 same-length : tie.Need-same-length
 same-length c = search needs
 
 returns : tie.Need-returns
 unfolding numbered
-returns c = put-then (c .before .before .before .before .before .before .put-word .ensures) (c .before .before .put-decimal .ensures)
+returns c =
+    let after-put-word = c .before .before .before .before .before .before in
+    put-then (after-put-word .put-word .ensures) (c .before .before .put-decimal .ensures)
 
 pub put-named-spec : {M : Type 1} → statement M
 put-named-spec = tie.close (tie.spec put-word-requires put-decimal-requires same-length returns)

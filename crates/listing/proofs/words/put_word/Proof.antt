@@ -20,10 +20,14 @@ shared-slice-read-text : tie.Need-shared-slice-read-text Inv-loop μ-loop
 shared-slice-read-text c = omega arith
 
 slice-write-text : tie.Need-slice-write-text Inv-loop μ-loop
-slice-write-text c = omega (arith, length-drop (c .before .before .loop .i) (now (c .before .before .before .args .word)))
+slice-write-text c =
+    let start = c .before .before .before in
+    omega (arith, length-drop (c .before .before .loop .i) (now (start .args .word)))
 
 add-next : tie.Need-add-next Inv-loop μ-loop
-add-next c = omega (arith, length-drop (c .before .before .loop .i) (now (c .before .before .before .args .word)))
+add-next c =
+    let start = c .before .before .before in
+    omega (arith, length-drop (c .before .before .loop .i) (now (start .args .word)))
 
 add-i : tie.Need-add-i Inv-loop μ-loop
 add-i c = omega arith
@@ -33,14 +37,19 @@ loop-less c = omega arith
 
 loop-again : tie.Need-loop-again Inv-loop μ-loop
 loop-again c =
-    let s = c .before .before .loop in
-    (omega arith, left-turn (s .inv .1) _ _ (rest-more (now (c .before .before .before .args .word)) (s .i) (c .before .loop-test .taken)) (put-byte (s .text) (s .next) _))
+    let start = c .before .before .before in
+    let s = c .before .before .loop in (
+      omega arith,
+      left-turn (s .inv .1) _ _ (rest-more (now (start .args .word)) (s .i) (c .before .loop-test .taken))
+          (put-byte (s .text) (s .next) _),
+    )
 
 same-length : tie.Need-same-length Inv-loop μ-loop
 same-length c = c .before .loop .inv .1 .size
 
 returns : tie.Need-returns Inv-loop μ-loop
-returns c = left-end (c .before .loop .inv .1) (drop-of-length-le (now (c .before .before .args .word)) (c .loop-test .left))
+returns c =
+    left-end (c .before .loop .inv .1) (drop-of-length-le (now (c .before .before .args .word)) (c .loop-test .left))
 
 pub put-word-spec : {M : Type 1} → statement M
 put-word-spec =

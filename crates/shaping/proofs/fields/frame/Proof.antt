@@ -23,9 +23,13 @@ byte-at-requires c κs = search needs
 
 returns-2 : tie.Need-returns-2
 returns-2 c =
-    let a = c .before .before .before .before .args in
+    let start = c .before .before .before .before in
+    let a = start .args in
     let s = now (a .sheet) in
-    simp (le-ltb (length s - a .at) 3 (omega arith), ne-eqb (getD s (a .at) 0) (a .tag) (λ e. c .if2 .taken (c .before .byte-at .ensures .byte ∙ e)))
+    simp (
+      le-ltb (length s - a .at) 3 (omega arith),
+      ne-eqb (getD s (a .at) 0) (a .tag) (λ e. c .if2 .taken (c .before .byte-at .ensures .byte ∙ e)),
+    )
 
 add-if3 : tie.Need-add-if3
 add-if3 c = search needs
@@ -38,15 +42,25 @@ length-at-requires c κs = search needs
 
 returns-3 : tie.Need-returns-3
 returns-3 c =
-    let a = c .before .before .before .before .before .before .args in
+    let start = c .before .before .before .before .before .before in
+    let a = start .args in
     let s = now (a .sheet) in
-    simp (le-ltb (length s - a .at) 3 (omega arith), eq-eqb (getD s (a .at) 0) (a .tag) (omega arith), lt-ltb (length s - valueAt (a .at)) (lengthAt s (a .at)) (omega arith))
+    simp (
+      le-ltb (length s - a .at) 3 (omega arith),
+      eq-eqb (getD s (a .at) 0) (a .tag) (omega arith),
+      lt-ltb (length s - valueAt (a .at)) (lengthAt s (a .at)) (omega arith),
+    )
 
 returns-4 : tie.Need-returns-4
 returns-4 c =
-    let a = c .before .before .before .before .before .before .args in
+    let start = c .before .before .before .before .before .before in
+    let a = start .args in
     let s = now (a .sheet) in
-    simp (le-ltb (length s - a .at) 3 (omega arith), eq-eqb (getD s (a .at) 0) (a .tag) (omega arith), le-ltb (length s - valueAt (a .at)) (lengthAt s (a .at)) (omega arith))
+    simp (
+      le-ltb (length s - a .at) 3 (omega arith),
+      eq-eqb (getD s (a .at) 0) (a .tag) (omega arith),
+      le-ltb (length s - valueAt (a .at)) (lengthAt s (a .at)) (omega arith),
+    )
 
 pub frame-spec : {M : Type 1} → statement M
 frame-spec =

@@ -11,13 +11,19 @@ small-at-requires : tie.Need-small-at-requires
 small-at-requires c κs = search needs
 
 returns : tie.Need-returns
-returns c = head-version (dueOf (c .before .before .before .args .terms)) (now (c .before .before .before .args .sheet)) (c .before .small-at .ensures) (c .if1 .taken)
+returns c =
+    let start = c .before .before .before in
+    head-version (dueOf (start .args .terms)) (now (start .args .sheet)) (c .before .small-at .ensures) (c .if1 .taken)
 
 small-at-requires-2 : tie.Need-small-at-requires-2
 small-at-requires-2 c κs = search needs
 
 returns-2 : tie.Need-returns-2
-returns-2 c = head-deep (dueOf (c .before .before .before .before .before .before .args .terms)) (now (c .before .before .before .before .before .before .args .sheet)) (c .before .before .before .before .small-at .ensures) (c .before .before .small-at2 .ensures) (omega arith) (omega arith)
+returns-2 c =
+    let after-small-at = c .before .before .before .before in
+    let start = after-small-at .before .before in
+    head-deep (dueOf (start .args .terms)) (now (start .args .sheet)) (after-small-at .small-at .ensures)
+    (c .before .before .small-at2 .ensures) (omega arith) (omega arith)
 
 sub-if3 : tie.Need-sub-if3
 sub-if3 c = search needs
@@ -29,10 +35,20 @@ small-at-requires-3 : tie.Need-small-at-requires-3
 small-at-requires-3 c κs = search needs
 
 returns-3 : tie.Need-returns-3
-returns-3 c = head-many (dueOf (c .before .before .before .before .before .before .before .before .before .args .terms)) (now (c .before .before .before .before .before .before .before .before .before .args .sheet)) (c .before .before .before .before .before .before .before .small-at .ensures) (c .before .before .before .before .before .small-at2 .ensures) (omega arith) (c .before .small-at3 .ensures) (omega arith) (omega arith)
+returns-3 c =
+    let after-small-at2 = c .before .before .before .before .before in
+    let after-small-at = after-small-at2 .before .before in
+    let start = after-small-at .before .before in
+    head-many (dueOf (start .args .terms)) (now (start .args .sheet)) (after-small-at .small-at .ensures)
+    (after-small-at2 .small-at2 .ensures) (omega arith) (c .before .small-at3 .ensures) (omega arith) (omega arith)
 
 returns-4 : tie.Need-returns-4
-returns-4 c = head-good (dueOf (c .before .before .before .before .before .before .before .before .before .args .terms)) (now (c .before .before .before .before .before .before .before .before .before .args .sheet)) (c .before .before .before .before .before .before .before .small-at .ensures) (c .before .before .before .before .before .small-at2 .ensures) (omega arith) (c .before .small-at3 .ensures) (omega arith) (omega arith)
+returns-4 c =
+    let after-small-at2 = c .before .before .before .before .before in
+    let after-small-at = after-small-at2 .before .before in
+    let start = after-small-at .before .before in
+    head-good (dueOf (start .args .terms)) (now (start .args .sheet)) (after-small-at .small-at .ensures)
+    (after-small-at2 .small-at2 .ensures) (omega arith) (c .before .small-at3 .ensures) (omega arith) (omega arith)
 
 pub head-in-range-spec : {M : Type 1} → statement M
 head-in-range-spec =

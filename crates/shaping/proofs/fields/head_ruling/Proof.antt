@@ -20,22 +20,35 @@ enum-told c = search needs
 
 head-value-requires : tie.Need-head-value-requires
 head-value-requires c κs =
-    let s = now (c .before .before .before .before .args .sheet) in
-    (c .before .before .before .before .pre .0, (c .before .before .before .before .pre .1, frame-fits s 0 (c .before .before .before .before .args .terms .form .head) false false (c .before .before .frame .ensures) (c .enum-told .given .1)))
+    let start = c .before .before .before .before in
+    let s = now (start .args .sheet) in (
+      start .pre .0,
+      (
+        start .pre .1,
+        frame-fits s 0 (start .args .terms .form .head) false false (c .before .before .frame .ensures)
+            (c .enum-told .given .1),
+      ),
+    )
 
 returns : tie.Need-returns
 unfolding headRuling
 returns c =
-    let s = now (c .before .before .before .before .before .args .sheet) in
-    let due = dueOf (c .before .before .before .before .before .args .terms) in
-    frame-faulty s 0 (due .form .head) (headLengthWrong due s) (headOutOfRange due s) (c .before .before .before .frame .ensures) (c .before .framed .given .1)
+    let after-frame = c .before .before .before in
+    let start = after-frame .before .before in
+    let s = now (start .args .sheet) in
+    let due = dueOf (start .args .terms) in
+    frame-faulty s 0 (due .form .head) (headLengthWrong due s) (headOutOfRange due s) (after-frame .frame .ensures)
+    (c .before .framed .given .1)
 
 returns-2 : tie.Need-returns-2
 unfolding headRuling
 returns-2 c =
-    let s = now (c .before .before .before .before .before .args .sheet) in
-    let due = dueOf (c .before .before .before .before .before .args .terms) in
-    frame-sound s 0 (due .form .head) (headLengthWrong due s) (headOutOfRange due s) (c .before .before .before .frame .ensures) (c .before .enum-told .given .1) (c .head-value .ensures)
+    let after-frame = c .before .before .before in
+    let start = after-frame .before .before in
+    let s = now (start .args .sheet) in
+    let due = dueOf (start .args .terms) in
+    frame-sound s 0 (due .form .head) (headLengthWrong due s) (headOutOfRange due s) (after-frame .frame .ensures)
+    (c .before .enum-told .given .1) (c .head-value .ensures)
 
 pub head-ruling-spec : {M : Type 1} → statement M
 head-ruling-spec =

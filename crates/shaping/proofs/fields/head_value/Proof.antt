@@ -22,28 +22,33 @@ add-if1-2 c = search needs
 
 returns : tie.Need-returns
 returns c =
-    let w = c .before .before .before .args .terms .form .width in
-    simp (ne-eqb (lengthAt (now (c .before .before .before .args .sheet)) 0) (1 + w + w) (omega arith))
+    let start = c .before .before .before in
+    let w = start .args .terms .form .width in
+    simp (ne-eqb (lengthAt (now (start .args .sheet)) 0) (1 + w + w) (omega arith))
 
 head-in-range-requires : tie.Need-head-in-range-requires
 head-in-range-requires c κs = search needs
 
 returns-2 : tie.Need-returns-2
 returns-2 c =
-    let w = c .before .before .before .before .before .args .terms .form .width in
-    let s = now (c .before .before .before .before .before .args .sheet) in
+    let start = c .before .before .before .before .before in
+    let w = start .args .terms .form .width in
+    let s = now (start .args .sheet) in
     rw (
       eq-eqb (lengthAt s 0) (1 + w + w) (omega arith),
-      not-false (headOutOfRange (dueOf (c .before .before .before .before .before .args .terms)) s) (sym (c .before .head-in-range .ensures) ∙ not-true (c .before .head-in-range .result) (c .if2 .taken)),
+      not-false (headOutOfRange (dueOf (start .args .terms)) s)
+          (sym (c .before .head-in-range .ensures) ∙ not-true (c .before .head-in-range .result) (c .if2 .taken)),
     )
 
 returns-3 : tie.Need-returns-3
 returns-3 c =
-    let w = c .before .before .before .before .before .args .terms .form .width in
-    let s = now (c .before .before .before .before .before .args .sheet) in
+    let start = c .before .before .before .before .before in
+    let w = start .args .terms .form .width in
+    let s = now (start .args .sheet) in
     rw (
       eq-eqb (lengthAt s 0) (1 + w + w) (omega arith),
-      not-true (headOutOfRange (dueOf (c .before .before .before .before .before .args .terms)) s) (sym (c .before .head-in-range .ensures) ∙ not-false (c .before .head-in-range .result) (c .if2 .left)),
+      not-true (headOutOfRange (dueOf (start .args .terms)) s)
+          (sym (c .before .head-in-range .ensures) ∙ not-false (c .before .head-in-range .result) (c .if2 .left)),
     )
 
 pub head-value-spec : {M : Type 1} → statement M

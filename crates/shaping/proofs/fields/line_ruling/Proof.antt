@@ -19,24 +19,34 @@ enum-told c = omega arith
 
 line-value-requires : tie.Need-line-value-requires
 line-value-requires c κs =
-    let s = now (c .before .before .before .before .args .sheet) in
-    (c .before .before .before .before .pre .0, frame-fits s (c .before .before .before .before .args .at) (c .before .before .before .before .args .terms .form .line) false false (c .before .before .frame .ensures) (c .enum-told .given .1))
+    let start = c .before .before .before .before in
+    let s = now (start .args .sheet) in (
+      start .pre .0,
+      frame-fits s (start .args .at) (start .args .terms .form .line) false false
+          (c .before .before .frame .ensures) (c .enum-told .given .1),
+    )
 
 returns : tie.Need-returns
 unfolding lineRuling
 returns c =
-    let s = now (c .before .before .before .before .before .args .sheet) in
-    let due = dueOf (c .before .before .before .before .before .args .terms) in
-    let at = c .before .before .before .before .before .args .at in
-    frame-faulty s at (due .form .line) (lineLengthWrong due s at) (lineRange due (lineAt due s at)) (c .before .before .before .frame .ensures) (c .before .framed .given .1)
+    let after-frame = c .before .before .before in
+    let start = after-frame .before .before in
+    let s = now (start .args .sheet) in
+    let due = dueOf (start .args .terms) in
+    let at = start .args .at in
+    frame-faulty s at (due .form .line) (lineLengthWrong due s at) (lineRange due (lineAt due s at))
+    (after-frame .frame .ensures) (c .before .framed .given .1)
 
 returns-2 : tie.Need-returns-2
 unfolding lineRuling
 returns-2 c =
-    let s = now (c .before .before .before .before .before .args .sheet) in
-    let due = dueOf (c .before .before .before .before .before .args .terms) in
-    let at = c .before .before .before .before .before .args .at in
-    frame-sound s at (due .form .line) (lineLengthWrong due s at) (lineRange due (lineAt due s at)) (c .before .before .before .frame .ensures) (c .before .enum-told .given .1) (c .line-value .ensures)
+    let after-frame = c .before .before .before in
+    let start = after-frame .before .before in
+    let s = now (start .args .sheet) in
+    let due = dueOf (start .args .terms) in
+    let at = start .args .at in
+    frame-sound s at (due .form .line) (lineLengthWrong due s at) (lineRange due (lineAt due s at))
+    (after-frame .frame .ensures) (c .before .enum-told .given .1) (c .line-value .ensures)
 
 pub line-ruling-spec : {M : Type 1} → statement M
 line-ruling-spec =

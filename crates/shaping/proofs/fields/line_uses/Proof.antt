@@ -14,7 +14,9 @@ add-if1 : tie.Need-add-if1
 add-if1 c = omega arith
 
 returns : tie.Need-returns
-returns c = line-torn (dueOf (c .before .before .before .args .terms)) (now (c .before .before .before .args .sheet)) (c .before .before .before .args .at) (omega arith)
+returns c =
+    let start = c .before .before .before in
+    line-torn (dueOf (start .args .terms)) (now (start .args .sheet)) (start .args .at) (omega arith)
 
 add-before : tie.Need-add-before
 add-before c = omega arith
@@ -29,16 +31,25 @@ small-at-requires : tie.Need-small-at-requires
 small-at-requires c κs = (narrow-one, omega arith)
 
 mul-before : tie.Need-mul-before
-mul-before c = omega (arith, twice (c .small-at .result) (c .before .before .before .before .pre .0), c .small-at .ensures .fits)
+mul-before c =
+    let start = c .before .before .before .before in
+    omega (arith, twice (c .small-at .result) (start .pre .0), c .small-at .ensures .fits)
 
 add-before-2 : tie.Need-add-before-2
-add-before-2 c = omega (arith, twice (c .small-at .result) (c .before .before .before .before .pre .0), c .small-at .ensures .fits)
+add-before-2 c =
+    let start = c .before .before .before .before in
+    omega (arith, twice (c .small-at .result) (start .pre .0), c .small-at .ensures .fits)
 
 add-if2 : tie.Need-add-if2
-add-if2 c = omega (arith, twice (c .small-at .result) (c .before .before .before .before .pre .0), c .small-at .ensures .fits)
+add-if2 c =
+    let start = c .before .before .before .before in
+    omega (arith, twice (c .small-at .result) (start .pre .0), c .small-at .ensures .fits)
 
 returns-2 : tie.Need-returns-2
-returns-2 c = line-short (dueOf (c .before .before .before .before .before .args .terms)) (now (c .before .before .before .before .before .args .sheet)) (c .before .before .before .before .before .args .at) (omega arith) (c .before .small-at .ensures) (omega arith)
+returns-2 c =
+    let start = c .before .before .before .before .before in
+    line-short (dueOf (start .args .terms)) (now (start .args .sheet)) (start .args .at) (omega arith)
+    (c .before .small-at .ensures) (omega arith)
 
 add-small-at-3 : tie.Need-add-small-at-3
 add-small-at-3 c = omega arith
@@ -65,10 +76,18 @@ add-paths-use-5 : tie.Need-add-paths-use-5
 add-paths-use-5 c = omega arith
 
 paths-use-requires : tie.Need-paths-use-requires
-paths-use-requires c κs = (c .before .before .before .before .before .before .pre .0, (omega arith, omega arith))
+paths-use-requires c κs =
+    let start = c .before .before .before .before .before .before in
+    (start .pre .0, (omega arith, omega arith))
 
 returns-3 : tie.Need-returns-3
-returns-3 c = line-used (dueOf (c .before .before .before .before .before .before .before .args .terms)) (now (c .before .before .before .before .before .before .before .args .sheet)) (c .before .before .before .before .before .before .before .args .at) (omega arith) (c .before .before .before .small-at .ensures) (omega arith) (c .before .small-at2 .ensures) (c .before .before .before .before .before .length-at .ensures) (c .paths-use .ensures)
+returns-3 c =
+    let after-small-at = c .before .before .before in
+    let after-length-at = after-small-at .before .before in
+    let start = after-length-at .before .before in
+    line-used (dueOf (start .args .terms)) (now (start .args .sheet)) (start .args .at) (omega arith)
+    (after-small-at .small-at .ensures) (omega arith) (c .before .small-at2 .ensures)
+    (after-length-at .length-at .ensures) (c .paths-use .ensures)
 
 pub line-uses-spec : {M : Type 1} → statement M
 line-uses-spec =

@@ -11,13 +11,27 @@ add-small-at : tie.Need-add-small-at
 add-small-at c = search needs
 
 small-at-requires : tie.Need-small-at-requires
-small-at-requires c κs = (c .before .pre .0, omega (arith, lut-parts (dueOf (c .before .args .terms)) (now (c .before .args .sheet)) (c .before .args .at) (c .before .pre .1 .1)))
+small-at-requires c κs = (
+  c .before .pre .0,
+  omega (
+    arith,
+    lut-parts (dueOf (c .before .args .terms)) (now (c .before .args .sheet)) (c .before .args .at)
+        (c .before .pre .1 .1),
+  ),
+)
 
 returns : tie.Need-returns
-returns c = lut-low (dueOf (c .before .before .before .args .terms)) (now (c .before .before .before .args .sheet)) (c .before .before .before .args .at) (c .before .small-at .ensures) (c .before .before .before .args .least) (omega arith)
+returns c =
+    let start = c .before .before .before in
+    lut-low (dueOf (start .args .terms)) (now (start .args .sheet)) (start .args .at) (c .before .small-at .ensures)
+    (start .args .least) (omega arith)
 
 returns-2 : tie.Need-returns-2
-returns-2 c = lut-high (dueOf (c .before .before .before .before .before .args .terms)) (now (c .before .before .before .before .before .args .sheet)) (c .before .before .before .before .before .args .at) (c .before .before .before .small-at .ensures) (c .before .before .before .before .before .args .least) (omega arith) (omega arith)
+returns-2 c =
+    let after-small-at = c .before .before .before in
+    let start = after-small-at .before .before in
+    lut-high (dueOf (start .args .terms)) (now (start .args .sheet)) (start .args .at)
+    (after-small-at .small-at .ensures) (start .args .least) (omega arith) (omega arith)
 
 add-leaves-in-range : tie.Need-add-leaves-in-range
 add-leaves-in-range c = search needs
@@ -26,10 +40,22 @@ add-leaves-in-range-2 : tie.Need-add-leaves-in-range-2
 add-leaves-in-range-2 c = search needs
 
 leaves-in-range-requires : tie.Need-leaves-in-range-requires
-leaves-in-range-requires c κs = (c .before .before .before .before .before .pre .0, omega (arith, lut-parts (dueOf (c .before .before .before .before .before .args .terms)) (now (c .before .before .before .before .before .args .sheet)) (c .before .before .before .before .before .args .at) (c .before .before .before .before .before .pre .1 .1)))
+leaves-in-range-requires c κs =
+    let start = c .before .before .before .before .before in (
+      start .pre .0,
+      omega (
+        arith,
+        lut-parts (dueOf (start .args .terms)) (now (start .args .sheet)) (start .args .at) (start .pre .1 .1),
+      ),
+    )
 
 returns-3 : tie.Need-returns-3
-returns-3 c = lut-told (dueOf (c .before .before .before .before .before .before .args .terms)) (now (c .before .before .before .before .before .before .args .sheet)) (c .before .before .before .before .before .before .args .at) (c .before .before .before .before .small-at .ensures) (c .before .before .before .before .before .before .args .least) (omega arith) (omega arith) (c .leaves-in-range .ensures)
+returns-3 c =
+    let after-small-at = c .before .before .before .before in
+    let start = after-small-at .before .before in
+    lut-told (dueOf (start .args .terms)) (now (start .args .sheet)) (start .args .at)
+    (after-small-at .small-at .ensures) (start .args .least) (omega arith) (omega arith)
+    (c .leaves-in-range .ensures)
 
 pub lut-in-range-spec : {M : Type 1} → statement M
 lut-in-range-spec =

@@ -19,24 +19,34 @@ enum-told c = search needs
 
 lut-value-requires : tie.Need-lut-value-requires
 lut-value-requires c κs =
-    let s = now (c .before .before .before .before .args .sheet) in
-    (c .before .before .before .before .pre .0, frame-fits s (c .before .before .before .before .args .at) (c .before .before .before .before .args .terms .form .lut) false false (c .before .before .frame .ensures) (c .enum-told .given .1))
+    let start = c .before .before .before .before in
+    let s = now (start .args .sheet) in (
+      start .pre .0,
+      frame-fits s (start .args .at) (start .args .terms .form .lut) false false (c .before .before .frame .ensures)
+          (c .enum-told .given .1),
+    )
 
 returns : tie.Need-returns
 unfolding lutRuling
 returns c =
-    let s = now (c .before .before .before .before .before .args .sheet) in
-    let due = dueOf (c .before .before .before .before .before .args .terms) in
-    let at = c .before .before .before .before .before .args .at in
-    frame-faulty s at (due .form .lut) (lutLengthWrong due s at) (lutRange due (c .before .before .before .before .before .args .least) (lutAt due s at)) (c .before .before .before .frame .ensures) (c .before .framed .given .1)
+    let after-frame = c .before .before .before in
+    let start = after-frame .before .before in
+    let s = now (start .args .sheet) in
+    let due = dueOf (start .args .terms) in
+    let at = start .args .at in
+    frame-faulty s at (due .form .lut) (lutLengthWrong due s at)
+    (lutRange due (start .args .least) (lutAt due s at)) (after-frame .frame .ensures) (c .before .framed .given .1)
 
 returns-2 : tie.Need-returns-2
 unfolding lutRuling
 returns-2 c =
-    let s = now (c .before .before .before .before .before .args .sheet) in
-    let due = dueOf (c .before .before .before .before .before .args .terms) in
-    let at = c .before .before .before .before .before .args .at in
-    frame-sound s at (due .form .lut) (lutLengthWrong due s at) (lutRange due (c .before .before .before .before .before .args .least) (lutAt due s at)) (c .before .before .before .frame .ensures) (c .before .enum-told .given .1) (c .lut-value .ensures)
+    let after-frame = c .before .before .before in
+    let start = after-frame .before .before in
+    let s = now (start .args .sheet) in
+    let due = dueOf (start .args .terms) in
+    let at = start .args .at in
+    frame-sound s at (due .form .lut) (lutLengthWrong due s at) (lutRange due (start .args .least) (lutAt due s at))
+    (after-frame .frame .ensures) (c .before .enum-told .given .1) (c .lut-value .ensures)
 
 pub lut-ruling-spec : {M : Type 1} → statement M
 lut-ruling-spec =

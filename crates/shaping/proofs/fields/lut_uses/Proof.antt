@@ -15,7 +15,9 @@ add-if1 : tie.Need-add-if1
 add-if1 c = search needs
 
 returns : tie.Need-returns
-returns c = lut-torn (dueOf (c .before .before .before .args .terms)) (now (c .before .before .before .args .sheet)) (c .before .before .before .args .at) (omega arith)
+returns c =
+    let start = c .before .before .before in
+    lut-torn (dueOf (start .args .terms)) (now (start .args .sheet)) (start .args .at) (omega arith)
 
 add-if2 : tie.Need-add-if2
 add-if2 c = search needs
@@ -30,19 +32,31 @@ small-at-requires : tie.Need-small-at-requires
 small-at-requires c κs = search needs
 
 mul-if2 : tie.Need-mul-if2
-mul-if2 c = omega (arith, twice (c .small-at .result) (c .before .before .before .before .pre .0), c .small-at .ensures .fits)
+mul-if2 c =
+    let start = c .before .before .before .before in
+    omega (arith, twice (c .small-at .result) (start .pre .0), c .small-at .ensures .fits)
 
 add-if2-2 : tie.Need-add-if2-2
-add-if2-2 c = omega (arith, twice (c .small-at .result) (c .before .before .before .before .pre .0), c .small-at .ensures .fits)
+add-if2-2 c =
+    let start = c .before .before .before .before in
+    omega (arith, twice (c .small-at .result) (start .pre .0), c .small-at .ensures .fits)
 
 add-if2-3 : tie.Need-add-if2-3
-add-if2-3 c = omega (arith, twice (c .small-at .result) (c .before .before .before .before .pre .0), c .small-at .ensures .fits)
+add-if2-3 c =
+    let start = c .before .before .before .before in
+    omega (arith, twice (c .small-at .result) (start .pre .0), c .small-at .ensures .fits)
 
 returns-2 : tie.Need-returns-2
-returns-2 c = lut-other (dueOf (c .before .before .before .before .before .args .terms)) (now (c .before .before .before .before .before .args .sheet)) (c .before .before .before .before .before .args .at) (omega arith) (c .before .small-at .ensures) (λ e. c .if2 .taken (omega (arith, e)))
+returns-2 c =
+    let start = c .before .before .before .before .before in
+    lut-other (dueOf (start .args .terms)) (now (start .args .sheet)) (start .args .at) (omega arith)
+    (c .before .small-at .ensures) (λ e. c .if2 .taken (omega (arith, e)))
 
 returns-3 : tie.Need-returns-3
-returns-3 c = lut-used (dueOf (c .before .before .before .before .before .args .terms)) (now (c .before .before .before .before .before .args .sheet)) (c .before .before .before .before .before .args .at) (omega arith) (c .before .small-at .ensures) (omega arith)
+returns-3 c =
+    let start = c .before .before .before .before .before in
+    lut-used (dueOf (start .args .terms)) (now (start .args .sheet)) (start .args .at) (omega arith)
+    (c .before .small-at .ensures) (omega arith)
 
 pub lut-uses-spec : {M : Type 1} → statement M
 lut-uses-spec =

@@ -11,58 +11,82 @@ use Rattle.shaping.proofs.loading.load_luts.Statement.{statement}
 use Rattle.shaping.proofs.loading.load_luts.Tie as tie
 
 abbrev Inv-loop : tie.InvT-loop
-Inv-loop terms sheet start roots₀ leaves₀ sizes₀ tables₀ width at₀ left₀ v₀ roots leaves sizes tables at left v = LutsLoading (dueOf terms) sheet (lutArrays roots₀ leaves₀ sizes₀ tables₀) (lutArrays roots leaves sizes tables) v left at
+Inv-loop terms sheet start luts₀ cuts₀ tables₀ width at₀ left₀ v₀ luts cuts tables at left v =
+    LutsLoading (dueOf terms) sheet (lutArrays luts₀ cuts₀ tables₀) (lutArrays luts cuts tables) v left at
 
 abbrev μ-loop : tie.MeasureT-loop
-μ-loop terms sheet start roots₀ leaves₀ sizes₀ tables₀ width at₀ left₀ v₀ roots leaves sizes tables at left v = terms .nodes - v
+μ-loop terms sheet start luts₀ cuts₀ tables₀ width at₀ left₀ v₀ luts cuts tables at left v = terms .numbers .nodes - v
 
 add-small-at : tie.Need-add-small-at Inv-loop μ-loop
-add-small-at c = omega (arith, c .before .before .before .before .before .pre .0 .narrow .few)
+add-small-at c =
+    let start = c .before .before .before .before in
+    omega (arith, start .pre .0 .narrow .few)
 
 small-at-requires : tie.Need-small-at-requires Inv-loop μ-loop
-small-at-requires c κs = (c .before .before .before .before .before .pre .0 .narrow, omega (arith, head-inside (dueOf (c .before .before .before .before .before .args .terms)) (now (c .before .before .before .before .before .args .sheet)) (whole (dueOf (c .before .before .before .before .before .args .terms)) (now (c .before .before .before .before .before .args .sheet)) (c .before .before .before .before .before .pre .0 .sound) .head)))
+small-at-requires c κs =
+    let start = c .before .before .before .before in (
+      start .pre .0 .narrow,
+      omega (
+        arith,
+        head-inside (dueOf (start .args .terms)) (now (start .args .sheet))
+            (whole (dueOf (start .args .terms)) (now (start .args .sheet)) (start .pre .0 .sound) .head),
+      ),
+    )
 
 loop-holds : tie.Need-loop-holds Inv-loop μ-loop
 loop-holds c =
-    let due = dueOf (c .before .before .before .before .before .before .args .terms) in
-    let s = now (c .before .before .before .before .before .before .args .sheet) in
+    let start = c .before .before .before .before .before in
+    let due = dueOf (start .args .terms) in
+    let s = now (start .args .sheet) in
     record {
       most = omega arith;
-      left = left-first due s (whole due s (c .before .before .before .before .before .before .pre .0 .sound)) (c .before .before .before .before .before .before .pre .1 .0) (c .small-at .ensures .number);
-      filled = luts-begin (lutArrays (now (c .before .before .before .before .before .before .args .roots)) (now (c .before .before .before .before .before .before .args .leaves)) (now (c .before .before .before .before .before .before .args .sizes)) (now (c .before .before .before .before .before .before .args .tables)));
+      left = left-first due s (whole due s (start .pre .0 .sound)) (start .pre .1 .0) (c .small-at .ensures .number);
+      filled = luts-begin (lutArrays (now (start .args .luts)) (now (start .args .cuts)) (now (start .args .tables)));
     }
 
-cast-t17 : tie.Need-cast-t17 Inv-loop μ-loop
-cast-t17 c = omega (arith, c .before .before .before .before .before .before .before .before .before .pre .0 .nodes)
+cast-t16 : tie.Need-cast-t16 Inv-loop μ-loop
+cast-t16 c =
+    let start = c .before .before .before .before .before .before .before .before in
+    omega (arith, start .pre .0 .nodes)
 
 lut-turn-requires : tie.Need-lut-turn-requires Inv-loop μ-loop
-lut-turn-requires c κs = (record { narrow = c .before .before .before .before .before .before .before .before .before .before .before .before .before .pre .0 .narrow; node = omega arith; left = c .before .before .before .before .before .before .loop .inv .left }, luts-room (c .before .before .before .before .before .before .loop .v + 1) (omega arith) (c .before .before .before .before .before .before .before .before .before .before .before .before .before .pre .1 .1) (c .before .before .before .before .before .before .loop .inv .filled))
+lut-turn-requires c κs =
+    let at-loop = c .before .before .before .before .before in
+    let start = at-loop .before .before .before .before .before .before in (
+      record { narrow = start .pre .0 .narrow; node = omega arith; left = at-loop .loop .inv .left },
+      luts-room (at-loop .loop .v + 1) (omega arith) (start .pre .1 .1) (at-loop .loop .inv .filled),
+    )
 
 add-v : tie.Need-add-v Inv-loop μ-loop
-add-v c = omega (arith, c .before .before .before .before .before .before .before .before .before .before .before .before .before .before .before .before .before .before .before .before .before .before .pre .0 .nodes)
+add-v c =
+    let start = c .before .before .before .before .before .before .before .before .before .before .before .before
+    .before .before .before .before .before .before in
+    omega (arith, start .pre .0 .nodes)
 
 loop-less : tie.Need-loop-less Inv-loop μ-loop
 loop-less c = omega arith
 
 loop-again : tie.Need-loop-again Inv-loop μ-loop
 loop-again c =
+    let after-lut-turn = c .before .before .before .before .before .before in
+    let at-loop = after-lut-turn .before .before .before .before .before .before in
+    let start = at-loop .before .before .before .before .before .before in
     record {
       most = omega arith;
-      left = c .before .before .before .before .before .before .before .before .lut-turn .ensures .left;
-      filled = luts-put (lut-room (c .before .before .before .before .before .before .before .before .before .before .before .before .before .before .before .loop .v + 1) (omega arith) (c .before .before .before .before .before .before .before .before .before .before .before .before .before .before .before .before .before .before .before .before .before .before .pre .1 .1)) (c .before .before .before .before .before .before .before .before .before .before .before .before .before .before .before .loop .inv .filled) (c .before .before .before .before .before .before .before .before .lut-turn .ensures .put);
+      left = after-lut-turn .lut-turn .ensures .left;
+      filled =
+          luts-put (lut-room (at-loop .loop .v + 1) (omega arith) (start .pre .1 .1)) (at-loop .loop .inv .filled)
+          (after-lut-turn .lut-turn .ensures .put);
     }
 
 same-length : tie.Need-same-length Inv-loop μ-loop
-same-length c = c .before .before .loop .inv .filled .roots .as-long
+same-length c = c .before .before .loop .inv .filled .luts .as-long
 
 same-length-2 : tie.Need-same-length-2 Inv-loop μ-loop
-same-length-2 c = c .before .before .loop .inv .filled .leaves .as-long
+same-length-2 c = c .before .before .loop .inv .filled .cuts .as-long
 
 same-length-3 : tie.Need-same-length-3 Inv-loop μ-loop
-same-length-3 c = c .before .before .loop .inv .filled .sizes .as-long
-
-same-length-4 : tie.Need-same-length-4 Inv-loop μ-loop
-same-length-4 c = c .before .before .loop .inv .filled .tables .as-long
+same-length-3 c = c .before .before .loop .inv .filled .tables .as-long
 
 returns : tie.Need-returns Inv-loop μ-loop
 returns c = luts-to (omega (arith, c .before .before .loop .inv .most)) (c .before .before .loop .inv .filled)
@@ -76,7 +100,7 @@ load-luts-spec =
     add-small-at
     small-at-requires
     loop-holds
-    cast-t17
+    cast-t16
     lut-turn-requires
     add-v
     loop-less
@@ -84,5 +108,4 @@ load-luts-spec =
     same-length
     same-length-2
     same-length-3
-    same-length-4
     returns)

@@ -5,16 +5,24 @@ use Rattle.shaping.proofs.loading.next_root.Statement.{statement}
 use Rattle.shaping.proofs.loading.next_root.Tie as tie
 
 returns : tie.Need-returns
-returns c = simp (eq-eqb (c .before .before .before .args .turn .left) 0 (omega arith))
+returns c =
+    let start = c .before .before .before in
+    simp (eq-eqb (start .args .turn .left) 0 (omega arith))
 
 add-small-at : tie.Need-add-small-at
-add-small-at c = omega (arith, c .before .before .before .pre .inside (omega arith))
+add-small-at c =
+    let start = c .before .before .before in
+    omega (arith, start .pre .inside (omega arith))
 
 small-at-requires : tie.Need-small-at-requires
-small-at-requires c κs = (c .before .before .before .pre .narrow, c .before .before .before .pre .inside (omega arith))
+small-at-requires c κs =
+    let start = c .before .before .before in
+    (start .pre .narrow, start .pre .inside (omega arith))
 
 returns-2 : tie.Need-returns-2
-returns-2 c = rw (ne-eqb (c .before .before .before .before .args .turn .left) 0 (omega arith)) (c .small-at .ensures .number)
+returns-2 c =
+    let start = c .before .before .before .before in
+    rw (ne-eqb (start .args .turn .left) 0 (omega arith)) (c .small-at .ensures .number)
 
 pub next-root-spec : {M : Type 1} → statement M
 next-root-spec = tie.close (tie.spec returns add-small-at small-at-requires returns-2)

@@ -11,13 +11,18 @@ use Rattle.shaping.proofs.numbers.ids_rise.Statement.{statement}
 use Rattle.shaping.proofs.numbers.ids_rise.Tie as tie
 
 abbrev Inv-loop : tie.InvT-loop
-Inv-loop sheet at width count before₀ next₀ left₀ before next left = (next + left * width ≤ length sheet) × (rising (idsAt sheet at width count) ≡ rising (before ∷ idsAt sheet next width left))
+Inv-loop sheet at width count before₀ next₀ left₀ before next left =
+    (next + left * width ≤ length sheet)
+    × (rising (idsAt sheet at width count) ≡ rising (before ∷ idsAt sheet next width left))
 
 abbrev μ-loop : tie.MeasureT-loop
 μ-loop sheet at width count before₀ next₀ left₀ before next left = left
 
 small-at-requires : tie.Need-small-at-requires Inv-loop μ-loop
-small-at-requires c κs = (c .before .pre .0, omega (arith, one-less (c .before .args .count) (c .before .args .width) (omega arith)))
+small-at-requires c κs = (
+  c .before .pre .0,
+  omega (arith, one-less (c .before .args .count) (c .before .args .width) (omega arith)),
+)
 
 add-next : tie.Need-add-next Inv-loop μ-loop
 add-next c = omega (arith, one-less (c .before .before .args .count) (c .before .before .args .width) (omega arith))
@@ -28,17 +33,29 @@ sub-left c = omega arith
 loop-holds : tie.Need-loop-holds Inv-loop μ-loop
 loop-holds c = (
   omega (arith, one-less (c .before .before .args .count) (c .before .before .args .width) (omega arith)),
-  rise-first (now (c .before .before .args .sheet)) (c .before .before .args .at) (c .before .before .args .width) (c .before .before .args .count) (omega arith) (c .small-at .ensures),
+  rise-first (now (c .before .before .args .sheet)) (c .before .before .args .at) (c .before .before .args .width)
+      (c .before .before .args .count) (omega arith) (c .small-at .ensures),
 )
 
 small-at-requires-2 : tie.Need-small-at-requires-2 Inv-loop μ-loop
-small-at-requires-2 c κs = (c .before .before .before .before .pre .0, omega (arith, one-less (c .before .loop .left) (c .before .before .before .before .args .width) (omega arith)))
+small-at-requires-2 c κs =
+    let start = c .before .before .before .before in
+    (start .pre .0, omega (arith, one-less (c .before .loop .left) (start .args .width) (omega arith)))
 
 returns : tie.Need-returns Inv-loop μ-loop
-returns c = sym (c .before .before .before .loop .inv .1 ∙ rise-stop (now (c .before .before .before .before .before .before .args .sheet)) (c .before .before .before .loop .before) (c .before .before .before .loop .next) (c .before .before .before .before .before .before .args .width) (c .before .before .before .loop .left) (omega arith) (c .before .small-at2 .ensures) (omega arith))
+returns c =
+    let at-loop = c .before .before .before in
+    let start = at-loop .before .before .before in
+    sym
+    (at-loop .loop .inv .1
+    ∙ rise-stop (now (start .args .sheet)) (at-loop .loop .before) (at-loop .loop .next) (start .args .width)
+    (at-loop .loop .left) (omega arith) (c .before .small-at2 .ensures) (omega arith))
 
 add-next-2 : tie.Need-add-next-2 Inv-loop μ-loop
-add-next-2 c = omega (arith, one-less (c .before .before .before .loop .left) (c .before .before .before .before .before .before .args .width) (omega arith))
+add-next-2 c =
+    let at-loop = c .before .before .before in
+    let start = at-loop .before .before .before in
+    omega (arith, one-less (at-loop .loop .left) (start .args .width) (omega arith))
 
 sub-left-2 : tie.Need-sub-left-2 Inv-loop μ-loop
 sub-left-2 c = omega arith
@@ -47,13 +64,22 @@ loop-less : tie.Need-loop-less Inv-loop μ-loop
 loop-less c = omega arith
 
 loop-again : tie.Need-loop-again Inv-loop μ-loop
-loop-again c = (
-  omega (arith, one-less (c .before .before .before .loop .left) (c .before .before .before .before .before .before .args .width) (omega arith)),
-  c .before .before .before .loop .inv .1 ∙ rise-next (now (c .before .before .before .before .before .before .args .sheet)) (c .before .before .before .loop .before) (c .before .before .before .loop .next) (c .before .before .before .before .before .before .args .width) (c .before .before .before .loop .left) (omega arith) (c .before .small-at2 .ensures) (omega arith),
-)
+loop-again c =
+    let at-loop = c .before .before .before in
+    let start = at-loop .before .before .before in (
+      omega (arith, one-less (at-loop .loop .left) (start .args .width) (omega arith)),
+      at-loop .loop .inv .1
+          ∙ rise-next (now (start .args .sheet)) (at-loop .loop .before) (at-loop .loop .next) (start .args .width)
+          (at-loop .loop .left) (omega arith) (c .before .small-at2 .ensures) (omega arith),
+    )
 
 returns-2 : tie.Need-returns-2 Inv-loop μ-loop
-returns-2 c = sym (c .before .loop .inv .1 ∙ rise-none (now (c .before .before .before .before .args .sheet)) (c .before .loop .before) (c .before .loop .next) (c .before .before .before .before .args .width) (c .before .loop .left) (omega arith))
+returns-2 c =
+    let start = c .before .before .before .before in
+    sym
+    (c .before .loop .inv .1
+    ∙ rise-none (now (start .args .sheet)) (c .before .loop .before) (c .before .loop .next) (start .args .width)
+    (c .before .loop .left) (omega arith))
 
 pub ids-rise-spec : {M : Type 1} → statement M
 ids-rise-spec =

@@ -14,31 +14,61 @@ small-at-requires : tie.Need-small-at-requires
 small-at-requires c κs = search needs
 
 returns : tie.Need-returns
-returns c = leaves-few (dueOf (c .before .before .before .args .terms)) (now (c .before .before .before .args .sheet)) (c .before .before .before .args .at) (c .before .small-at .ensures) (omega arith)
+returns c =
+    let start = c .before .before .before in
+    leaves-few (dueOf (start .args .terms)) (now (start .args .sheet)) (start .args .at)
+    (c .before .small-at .ensures) (omega arith)
 
 cast-if2 : tie.Need-cast-if2
 cast-if2 c = search needs
 
 returns-2 : tie.Need-returns-2
-returns-2 c = leaves-many (dueOf (c .before .before .before .before .before .args .terms)) (now (c .before .before .before .before .before .args .sheet)) (c .before .before .before .before .before .args .at) (c .before .before .before .small-at .ensures) (omega arith) (omega arith)
+returns-2 c =
+    let after-small-at = c .before .before .before in
+    let start = after-small-at .before .before in
+    leaves-many (dueOf (start .args .terms)) (now (start .args .sheet)) (start .args .at)
+    (after-small-at .small-at .ensures) (omega arith) (omega arith)
 
 add-ids-rise : tie.Need-add-ids-rise
 add-ids-rise c = search needs
 
 ids-rise-requires : tie.Need-ids-rise-requires
-ids-rise-requires c κs = (c .before .before .before .before .before .pre .0, (omega arith, omega (arith, ap (λ (n : ℕ). n * c .before .before .before .before .before .args .terms .form .width) (c .before .before .before .small-at .ensures .number))))
+ids-rise-requires c κs =
+    let after-small-at = c .before .before .before in
+    let start = after-small-at .before .before in (
+      start .pre .0,
+      (
+        omega arith,
+        omega (arith, ap (λ (n : ℕ). n * start .args .terms .form .width) (after-small-at .small-at .ensures .number)),
+      ),
+    )
 
 returns-3 : tie.Need-returns-3
-returns-3 c = leaves-fall (dueOf (c .before .before .before .before .before .before .before .args .terms)) (now (c .before .before .before .before .before .before .before .args .sheet)) (c .before .before .before .before .before .before .before .args .at) (c .before .before .before .before .before .small-at .ensures) (omega arith) (omega arith) (c .before .ids-rise .ensures) (not-true (c .before .ids-rise .result) (c .if3 .taken))
+returns-3 c =
+    let after-small-at = c .before .before .before .before .before in
+    let start = after-small-at .before .before in
+    leaves-fall (dueOf (start .args .terms)) (now (start .args .sheet)) (start .args .at)
+    (after-small-at .small-at .ensures) (omega arith) (omega arith) (c .before .ids-rise .ensures)
+    (not-true (c .before .ids-rise .result) (c .if3 .taken))
 
 add-ids-below : tie.Need-add-ids-below
 add-ids-below c = search needs
 
 ids-below-requires : tie.Need-ids-below-requires
-ids-below-requires c κs = (c .before .before .before .before .before .before .before .pre .0, omega (arith, ap (λ (n : ℕ). n * c .before .before .before .before .before .before .before .args .terms .form .width) (c .before .before .before .before .before .small-at .ensures .number)))
+ids-below-requires c κs =
+    let after-small-at = c .before .before .before .before .before in
+    let start = after-small-at .before .before in (
+      start .pre .0,
+      omega (arith, ap (λ (n : ℕ). n * start .args .terms .form .width) (after-small-at .small-at .ensures .number)),
+    )
 
 returns-4 : tie.Need-returns-4
-returns-4 c = leaves-told (dueOf (c .before .before .before .before .before .before .before .before .args .terms)) (now (c .before .before .before .before .before .before .before .before .args .sheet)) (c .before .before .before .before .before .before .before .before .args .at) (c .before .before .before .before .before .before .small-at .ensures) (omega arith) (omega arith) (c .before .before .ids-rise .ensures) (not-false (c .before .before .ids-rise .result) (c .before .if3 .left)) (c .ids-below .ensures)
+returns-4 c =
+    let after-small-at = c .before .before .before .before .before .before in
+    let start = after-small-at .before .before in
+    leaves-told (dueOf (start .args .terms)) (now (start .args .sheet)) (start .args .at)
+    (after-small-at .small-at .ensures) (omega arith) (omega arith) (c .before .before .ids-rise .ensures)
+    (not-false (c .before .before .ids-rise .result) (c .before .if3 .left)) (c .ids-below .ensures)
 
 pub leaves-in-range-spec : {M : Type 1} → statement M
 leaves-in-range-spec =

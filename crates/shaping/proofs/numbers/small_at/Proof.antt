@@ -10,7 +10,9 @@ byte-at-requires : tie.Need-byte-at-requires
 byte-at-requires c κs = search needs
 
 returns : tie.Need-returns
-returns c = small-one (now (c .before .before .before .args .sheet)) (c .before .before .before .args .at) (omega arith) (omega arith) (c .before .byte-at .ensures)
+returns c =
+    let start = c .before .before .before in
+    small-one (now (start .args .sheet)) (start .args .at) (omega arith) (omega arith) (c .before .byte-at .ensures)
 
 mul-result : tie.Need-mul-result
 mul-result c = search needs
@@ -25,7 +27,10 @@ add-result : tie.Need-add-result
 add-result c = search needs
 
 returns-2 : tie.Need-returns-2
-returns-2 c = small-two (now (c .before .before .before .before .args .sheet)) (c .before .before .before .before .args .at) (c .before .before .before .before .pre .0) (c .before .if1 .left) (omega arith) (c .before .before .byte-at .ensures) (c .byte-at2 .ensures)
+returns-2 c =
+    let start = c .before .before .before .before in
+    small-two (now (start .args .sheet)) (start .args .at) (start .pre .0) (c .before .if1 .left) (omega arith)
+    (c .before .before .byte-at .ensures) (c .byte-at2 .ensures)
 
 pub small-at-spec : {M : Type 1} → statement M
 small-at-spec =

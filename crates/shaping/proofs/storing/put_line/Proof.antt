@@ -36,12 +36,6 @@ mul-labels c = search needs
 slice-write-labels : tie.Need-slice-write-labels
 slice-write-labels c = search needs
 
-cast-sizes : tie.Need-cast-sizes
-cast-sizes c = search needs
-
-slice-write-sizes : tie.Need-slice-write-sizes
-slice-write-sizes c = search needs
-
 cast-places : tie.Need-cast-places
 cast-places c = search needs
 
@@ -51,11 +45,22 @@ mul-places c = search needs
 slice-write-places : tie.Need-slice-write-places
 slice-write-places c = search needs
 
-add-put-leaves : tie.Need-add-put-leaves
-add-put-leaves c = search needs
+add-put-list : tie.Need-add-put-list
+add-put-list c = search needs
 
-put-leaves-requires : tie.Need-put-leaves-requires
-put-leaves-requires c κs = (c .before .before .before .before .before .before .before .before .before .pre .0 .narrow, (omega (arith, c .before .before .before .before .before .before .before .before .before .pre .0 .whole, ap (λ (n : ℕ). n * c .before .before .before .before .before .before .before .before .before .args .terms .form .width) (c .before .before .small-at .ensures .number)), omega (arith, c .before .before .before .before .before .before .before .before .before .pre .1 .leaves)))
+put-list-requires : tie.Need-put-list-requires
+put-list-requires c κs =
+    let start = c .before .before .before .before .before .before .before .before in
+    let read = c .before .before .small-at .ensures in (
+      start .pre .0 .narrow,
+      (
+        read .fits,
+        (
+          omega (arith, start .pre .0 .whole, ap (λ (n : ℕ). n * start .args .terms .form .width) (read .number)),
+          omega (arith, start .pre .1 .cuts),
+        ),
+      ),
+    )
 
 same-length : tie.Need-same-length
 same-length c = search needs
@@ -66,11 +71,13 @@ same-length-2 c = search needs
 same-length-3 : tie.Need-same-length-3
 same-length-3 c = search needs
 
-same-length-4 : tie.Need-same-length-4
-same-length-4 c = search needs
-
 returns : tie.Need-returns
-returns c = line-put (dueOf (c .before .before .before .before .before .before .before .before .before .before .before .before .args .terms)) (now (c .before .before .before .before .before .before .before .before .before .before .before .before .args .sheet)) (c .before .before .before .before .before .before .before .before .before .before .before .before .args .at) (c .before .before .before .before .before .before .before .before .before .before .before .before .args .node .id) (c .before .before .before .before .before .small-at .ensures) (c .before .before .put-leaves .ensures) (c .before .before .before .before .small-at2 .ensures)
+returns c =
+    let after-small-at2 = c .before .before .before .before in
+    let after-small-at = after-small-at2 .before in
+    let start = after-small-at .before .before .before .before .before .before in
+    line-put (dueOf (start .args .terms)) (now (start .args .sheet)) (start .args .at) (start .args .node .id)
+    (after-small-at .small-at .ensures) (c .before .before .put-list .ensures) (after-small-at2 .small-at2 .ensures)
 
 pub put-line-spec : {M : Type 1} → statement M
 put-line-spec =
@@ -85,15 +92,12 @@ put-line-spec =
     cast-labels
     mul-labels
     slice-write-labels
-    cast-sizes
-    slice-write-sizes
     cast-places
     mul-places
     slice-write-places
-    add-put-leaves
-    put-leaves-requires
+    add-put-list
+    put-list-requires
     same-length
     same-length-2
     same-length-3
-    same-length-4
     returns)

@@ -14,17 +14,14 @@ mul-labels c = search needs
 slice-write-labels : tie.Need-slice-write-labels
 slice-write-labels c = search needs
 
-slice-write-sizes : tie.Need-slice-write-sizes
-slice-write-sizes c = search needs
-
 mul-places : tie.Need-mul-places
 mul-places c = search needs
 
 slice-write-places : tie.Need-slice-write-places
 slice-write-places c = search needs
 
-put-leaves-requires : tie.Need-put-leaves-requires
-put-leaves-requires c κs = search needs
+put-list-requires : tie.Need-put-list-requires
+put-list-requires c κs = search needs
 
 same-length : tie.Need-same-length
 same-length c = search needs
@@ -35,11 +32,10 @@ same-length-2 c = search needs
 same-length-3 : tie.Need-same-length-3
 same-length-3 c = search needs
 
-same-length-4 : tie.Need-same-length-4
-same-length-4 c = search needs
-
 returns : tie.Need-returns
-returns c = no-line-put (now (c .before .before .before .before .before .before .before .before .before .before .args .sheet)) (c .before .before .before .before .before .before .before .before .before .before .args .node .id) (c .before .before .put-leaves .ensures)
+returns c =
+    let start = c .before .before .before .before .before .before .before .before .before in
+    no-line-put (now (start .args .sheet)) (start .args .node .id) (c .before .before .put-list .ensures)
 
 pub put-no-line-spec : {M : Type 1} → statement M
 put-no-line-spec =
@@ -48,12 +44,10 @@ put-no-line-spec =
     cast-v
     mul-labels
     slice-write-labels
-    slice-write-sizes
     mul-places
     slice-write-places
-    put-leaves-requires
+    put-list-requires
     same-length
     same-length-2
     same-length-3
-    same-length-4
     returns)

@@ -8,11 +8,8 @@ use Rattle.shaping.proofs.storing.put_no_lut.Tie as tie
 cast-v : tie.Need-cast-v
 cast-v c = search needs
 
-slice-write-roots : tie.Need-slice-write-roots
-slice-write-roots c = search needs
-
-slice-write-sizes : tie.Need-slice-write-sizes
-slice-write-sizes c = search needs
+slice-write-luts : tie.Need-slice-write-luts
+slice-write-luts c = search needs
 
 mul-tables : tie.Need-mul-tables
 mul-tables c = search needs
@@ -20,8 +17,8 @@ mul-tables c = search needs
 slice-write-tables : tie.Need-slice-write-tables
 slice-write-tables c = search needs
 
-put-leaves-requires : tie.Need-put-leaves-requires
-put-leaves-requires c κs = search needs
+put-list-requires : tie.Need-put-list-requires
+put-list-requires c κs = search needs
 
 same-length : tie.Need-same-length
 same-length c = search needs
@@ -32,24 +29,21 @@ same-length-2 c = search needs
 same-length-3 : tie.Need-same-length-3
 same-length-3 c = search needs
 
-same-length-4 : tie.Need-same-length-4
-same-length-4 c = search needs
-
 returns : tie.Need-returns
-returns c = no-lut-put (now (c .before .before .before .before .before .before .before .before .before .before .args .sheet)) (c .before .before .before .before .before .before .before .before .before .before .args .node .id) (c .before .before .put-leaves .ensures)
+returns c =
+    let start = c .before .before .before .before .before .before .before .before .before in
+    no-lut-put (now (start .args .sheet)) (start .args .node .id) (c .before .before .put-list .ensures)
 
 pub put-no-lut-spec : {M : Type 1} → statement M
 put-no-lut-spec =
     tie.close
     (tie.spec
     cast-v
-    slice-write-roots
-    slice-write-sizes
+    slice-write-luts
     mul-tables
     slice-write-tables
-    put-leaves-requires
+    put-list-requires
     same-length
     same-length-2
     same-length-3
-    same-length-4
     returns)

@@ -19,7 +19,8 @@ sub-put-number : tie.Need-sub-put-number
 sub-put-number c = search needs
 
 put-number-requires : tie.Need-put-number-requires
-put-number-requires c κs = omega (arith, length-digits 2 (c .before .before .args .next - (c .before .before .args .at + 3)))
+put-number-requires c κs =
+    omega (arith, length-digits 2 (c .before .before .args .next - (c .before .before .args .at + 3)))
 
 same-length : tie.Need-same-length
 same-length c = search needs

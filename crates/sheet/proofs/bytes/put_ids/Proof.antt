@@ -14,7 +14,9 @@ abbrev μ-loop : tie.MeasureT-loop
 μ-loop sheet₀ at ids from count width next₀ i₀ sheet next i = count - i
 
 loop-holds : tie.Need-loop-holds Inv-loop μ-loop
-loop-holds c = ids-none (now (c .before .before .args .sheet)) (c .before .before .args .at) (now (c .before .before .args .ids)) (c .before .before .args .from) (c .before .before .args .count) (c .before .before .args .width)
+loop-holds c =
+    ids-none (now (c .before .before .args .sheet)) (c .before .before .args .at) (now (c .before .before .args .ids))
+    (c .before .before .args .from) (c .before .before .args .count) (c .before .before .args .width)
 
 add-put-number : tie.Need-add-put-number Inv-loop μ-loop
 add-put-number c = omega arith
@@ -26,10 +28,17 @@ shared-slice-read-put-number : tie.Need-shared-slice-read-put-number Inv-loop μ
 shared-slice-read-put-number c = omega arith
 
 cast-put-number : tie.Need-cast-put-number Inv-loop μ-loop
-cast-put-number c = omega (arith, c .before .before .before .before .shared-slice-known .given (c .before .before .before .before .before .before .args .from + c .before .before .before .loop .i))
+cast-put-number c =
+    let at-loop = c .before .before .before in
+    let after-shared-slice-known = at-loop .before in
+    let start = after-shared-slice-known .before .before in
+    omega (arith, after-shared-slice-known .shared-slice-known .given (start .args .from + at-loop .loop .i))
 
 put-number-requires : tie.Need-put-number-requires Inv-loop μ-loop
-put-number-requires c κs = ids-room ((c .before .before .before .before .before .before .pre) .0) (c .before .before .before .loop .inv) ((c .before .before .before .before .before .before .pre) .1) (c .before .before .loop-test .taken)
+put-number-requires c κs =
+    let at-loop = c .before .before .before in
+    let start = at-loop .before .before .before in
+    ids-room (start .pre .0) (at-loop .loop .inv) (start .pre .1) (c .before .before .loop-test .taken)
 
 add-i : tie.Need-add-i Inv-loop μ-loop
 add-i c = omega arith
@@ -38,13 +47,19 @@ loop-less : tie.Need-loop-less Inv-loop μ-loop
 loop-less c = omega arith
 
 loop-again : tie.Need-loop-again Inv-loop μ-loop
-loop-again c = ids-more ((c .before .before .before .before .before .before .before .before .before .pre) .0) (c .before .before .before .before .before .before .loop .inv) (c .before .before .before .before .before .loop-test .taken) (c .before .before .put-number .ensures)
+loop-again c =
+    let in-loop = c .before .before .before .before .before in
+    let at-loop = in-loop .before in
+    let start = at-loop .before .before .before in
+    ids-more (start .pre .0) (at-loop .loop .inv) (in-loop .loop-test .taken) (c .before .before .put-number .ensures)
 
 same-length : tie.Need-same-length Inv-loop μ-loop
 same-length c = same-size (c .before .loop .inv .written)
 
 returns : tie.Need-returns Inv-loop μ-loop
-returns c = ids-all ((c .before .before .before .before .pre) .0) (c .before .loop .inv) (c .loop-test .left)
+returns c =
+    let start = c .before .before .before .before in
+    ids-all (start .pre .0) (c .before .loop .inv) (c .loop-test .left)
 
 pub put-ids-spec : {M : Type 1} → statement M
 put-ids-spec =

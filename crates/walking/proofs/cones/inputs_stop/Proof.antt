@@ -7,15 +7,17 @@ use denote.Ref.{now}
 use borrow.Author.Tests.{not-true, not-false}
 use lib.ListN.{getD, take}
 use borrow.Author.Count.{below-more}
-use Rattle.walking.proofs.Tests.{tells-yes, tells-no}
+use Rattle.storage.specs.Roles.{metIn}
+use Rattle.storage.proofs.InMarks.{tells-yes, tells-no}
 use Rattle.walking.proofs.cones.inputs_stop.Statement.{statement}
 use Rattle.walking.proofs.cones.inputs_stop.Tie as tie
 
 abbrev Inv-loop : tie.InvT-loop
-Inv-loop leaves size inputs met v₀ v = (v ≤ inputs) × ((u : ℕ) → u < v → getD met u 0 ≡ 1 → List·Memᴰ u (take (size .leaves) leaves))
+Inv-loop leaves size inputs roles v₀ v =
+    (v ≤ inputs) × ((u : ℕ) → u < v → getD (metIn roles) u 0 ≡ 1 → List·Memᴰ u (take (size .leaves) leaves))
 
 abbrev μ-loop : tie.MeasureT-loop
-μ-loop leaves size inputs met v₀ v = inputs - v
+μ-loop leaves size inputs roles v₀ v = inputs - v
 
 loop-holds : tie.Need-loop-holds Inv-loop μ-loop
 loop-holds c = (omega arith, λ j low. absurd (omega arith))
@@ -24,10 +26,14 @@ cast-t7 : tie.Need-cast-t7 Inv-loop μ-loop
 cast-t7 c = omega arith
 
 stops-requires : tie.Need-stops-requires Inv-loop μ-loop
-stops-requires c κs = ((c .before .before .before .before .pre) .0, omega arith)
+stops-requires c κs =
+    let start = c .before .before .before .before in
+    (start .pre .0, omega arith)
 
 returns : tie.Need-returns Inv-loop μ-loop
-returns c = tells-no (λ all. c .before .stops .ensures .no (not-true _ (c .if1 .taken)) (all (c .before .before .before .loop .v) (omega arith)))
+returns c =
+    let at-loop = c .before .before .before in
+    tells-no (λ all. c .before .stops .ensures .no (not-true _ (c .if1 .taken)) (all (at-loop .loop .v) (omega arith)))
 
 add-v : tie.Need-add-v Inv-loop μ-loop
 add-v c = omega arith
@@ -36,7 +42,16 @@ loop-less : tie.Need-loop-less Inv-loop μ-loop
 loop-less c = omega arith
 
 loop-again : tie.Need-loop-again Inv-loop μ-loop
-loop-again c = (omega arith, below-more (λ (u : ℕ). getD (now (c .before .before .before .before .before .before .args .met)) u 0 ≡ 1 → List·Memᴰ u (take (c .before .before .before .before .before .before .args .size .leaves) (now (c .before .before .before .before .before .before .args .leaves)))) _ (c .before .before .before .loop .inv .1) (c .before .stops .ensures .yes (not-false _ (c .if1 .left))))
+loop-again c =
+    let at-loop = c .before .before .before in
+    let start = at-loop .before .before .before in
+    let a = start .args in
+    let stops = c .before .stops .ensures .yes (not-false _ (c .if1 .left)) in (
+      omega arith,
+      below-more
+          (λ (u : ℕ). getD (metIn (now (a .roles))) u 0 ≡ 1 → List·Memᴰ u (take (a .size .leaves) (now (a .leaves)))) _
+          (at-loop .loop .inv .1) stops,
+    )
 
 returns-2 : tie.Need-returns-2 Inv-loop μ-loop
 returns-2 c = tells-yes (λ u low. c .before .loop .inv .1 u (omega arith))

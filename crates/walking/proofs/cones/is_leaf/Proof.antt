@@ -5,9 +5,9 @@ use mathlib.Core.Path.{_≡_, sym}
 use lib.ListN.{getD}
 use borrow.Author.Count.{below-more}
 use denote.Ref.{now}
-use Rattle.walking.proofs.Tests.{tells-yes, tells-no, none-of-part}
+use Rattle.storage.proofs.Entries.{member-of-part, none-of-part}
+use Rattle.storage.proofs.InMarks.{tells-yes, tells-no}
 use mathlib.Core.List.{Memᴰ·cast}
-use Rattle.walking.proofs.Entries.{member-of-part}
 use Rattle.walking.proofs.cones.is_leaf.Statement.{statement}
 use Rattle.walking.proofs.cones.is_leaf.Tie as tie
 
@@ -31,8 +31,12 @@ shared-slice-read-if1 c = omega arith
 
 returns : tie.Need-returns Inv-loop μ-loop
 returns c =
-    let a = c .before .before .before .before .before .before .args in
-    tells-yes (Memᴰ·cast (sym (c .if1 .taken)) (member-of-part (a .size .leaves) (now (a .leaves)) (c .before .before .before .before .loop .i) (omega arith) (omega arith)))
+    let at-loop = c .before .before .before .before in
+    let start = at-loop .before .before in
+    let a = start .args in
+    tells-yes
+    (Memᴰ·cast (sym (c .if1 .taken))
+    (member-of-part (a .size .leaves) (now (a .leaves)) (at-loop .loop .i) (omega arith) (omega arith)))
 
 add-i : tie.Need-add-i Inv-loop μ-loop
 add-i c = omega arith
@@ -41,12 +45,17 @@ loop-less : tie.Need-loop-less Inv-loop μ-loop
 loop-less c = omega arith
 
 loop-again : tie.Need-loop-again Inv-loop μ-loop
-loop-again c = (omega arith, below-more _ _ (c .before .before .before .before .loop .inv .1) (c .if1 .left))
+loop-again c =
+    let at-loop = c .before .before .before .before in
+    (omega arith, below-more _ _ (at-loop .loop .inv .1) (c .if1 .left))
 
 returns-2 : tie.Need-returns-2 Inv-loop μ-loop
 returns-2 c =
-    let a = c .before .before .before .args in
-    tells-no (none-of-part (a .size .leaves) (now (a .leaves)) (a .node .id) (λ i low. c .before .loop .inv .1 i (omega arith)))
+    let start = c .before .before .before in
+    let a = start .args in
+    tells-no
+    (none-of-part (a .size .leaves) (now (a .leaves)) (a .node .id)
+    (λ i low. c .before .loop .inv .1 i (omega arith)))
 
 pub is-leaf-spec : {M : Type 1} → statement M
 is-leaf-spec =

@@ -4,7 +4,8 @@ use Prim.Native.Nat.{ℕ, suc, _≤_, _<_, _-_}
 use mathlib.Core.Path.{_≡_, ap}
 use lib.ListN.{getD}
 use denote.Ref.{now}
-use Rattle.walking.proofs.Tests.{tells-yes, tells-no, part-rises, part-falls}
+use Rattle.storage.proofs.InMarks.{tells-yes, tells-no}
+use Rattle.walking.proofs.Tests.{part-rises, part-falls}
 use Rattle.walking.proofs.Tests.{rising-more}
 use Rattle.walking.proofs.cones.is_rising.Statement.{statement}
 use Rattle.walking.proofs.cones.is_rising.Tie as tie
@@ -38,10 +39,14 @@ shared-slice-read-if1-2 c = omega arith
 
 returns : tie.Need-returns Inv-loop μ-loop
 returns c =
-    let a = c .before .before .before .before .before .before .args in
-    let i = c .before .before .before .before .loop .i in
+    let at-loop = c .before .before .before .before in
+    let start = at-loop .before .before in
+    let a = start .args in
+    let i = at-loop .loop .i in
     let same : suc (i - 1) ≡ i = omega arith in
-    tells-no (part-falls (a .size .leaves) (now (a .leaves)) (c .before .before .before .before .before .before .pre) (i - 1) (omega arith) (omega (arith, ap (λ (j : ℕ). getD (now (a .leaves)) j 0) same)))
+    tells-no
+    (part-falls (a .size .leaves) (now (a .leaves)) (start .pre) (i - 1) (omega arith)
+    (omega (arith, ap (λ (j : ℕ). getD (now (a .leaves)) j 0) same)))
 
 add-i : tie.Need-add-i Inv-loop μ-loop
 add-i c = omega arith
@@ -51,15 +56,19 @@ loop-less c = omega arith
 
 loop-again : tie.Need-loop-again Inv-loop μ-loop
 loop-again c =
-    let a = c .before .before .before .before .before .before .args in
-    let i = c .before .before .before .before .loop .i in
+    let at-loop = c .before .before .before .before in
+    let start = at-loop .before .before in
+    let a = start .args in
+    let i = at-loop .loop .i in
     let same : suc (i - 1) ≡ i = omega arith in
-    (omega arith, rising-more (now (a .leaves)) i (c .before .before .before .before .loop .inv .0) (c .before .before .before .before .loop .inv .1) (c .if1 .left))
+    (omega arith, rising-more (now (a .leaves)) i (at-loop .loop .inv .0) (at-loop .loop .inv .1) (c .if1 .left))
 
 returns-2 : tie.Need-returns-2 Inv-loop μ-loop
 returns-2 c =
-    let a = c .before .before .before .args in
-    tells-yes (part-rises (a .size .leaves) (now (a .leaves)) (c .before .before .before .pre) (λ i low. c .before .loop .inv .1 i (omega arith)))
+    let start = c .before .before .before in
+    let a = start .args in
+    tells-yes
+    (part-rises (a .size .leaves) (now (a .leaves)) (start .pre) (λ i low. c .before .loop .inv .1 i (omega arith)))
 
 pub is-rising-spec : {M : Type 1} → statement M
 is-rising-spec =

@@ -6,16 +6,18 @@ use lib.ListN.{getD}
 use borrow.Author.Count.{below-more}
 use borrow.Author.Tests.{not-true, not-false}
 use denote.Ref.{now}
-use Rattle.walking.proofs.Tests.{tells-yes, tells-no, each-of-part}
-use Rattle.walking.proofs.Entries.{member-of-part}
+use Rattle.storage.specs.Roles.{metIn}
+use Rattle.storage.proofs.Entries.{member-of-part, each-of-part}
+use Rattle.storage.proofs.InMarks.{tells-yes, tells-no}
 use Rattle.walking.proofs.cones.leaves_met.Statement.{statement}
 use Rattle.walking.proofs.cones.leaves_met.Tie as tie
 
 abbrev Inv-loop : tie.InvT-loop
-Inv-loop leaves nodes met most i₀ i = (i ≤ most) × ((j : ℕ) → j < i → (getD leaves j 0 < nodes) × (getD met (getD leaves j 0) 0 ≡ 1))
+Inv-loop leaves nodes roles most i₀ i =
+    (i ≤ most) × ((j : ℕ) → j < i → (getD leaves j 0 < nodes) × (getD (metIn roles) (getD leaves j 0) 0 ≡ 1))
 
 abbrev μ-loop : tie.MeasureT-loop
-μ-loop leaves nodes met most i₀ i = most - i
+μ-loop leaves nodes roles most i₀ i = most - i
 
 cast-most : tie.Need-cast-most Inv-loop μ-loop
 cast-most c = omega arith
@@ -34,16 +36,25 @@ cast-if1 c = omega arith
 
 returns : tie.Need-returns Inv-loop μ-loop
 returns c =
-    let a = c .before .before .before .before .before .before .before .before .args in
-    tells-no (λ all. omega (arith, all (getD (now (a .leaves)) (c .before .before .before .before .loop .i) 0) (member-of-part (a .size .leaves) (now (a .leaves)) (c .before .before .before .before .loop .i) (omega arith) (omega arith))))
+    let at-loop = c .before .before .before .before in
+    let start = at-loop .before .before .before .before in
+    let a = start .args in
+    let i = at-loop .loop .i in
+    let here = member-of-part (a .size .leaves) (now (a .leaves)) i (omega arith) (omega arith) in
+    tells-no (λ all. omega (arith, all (getD (now (a .leaves)) i 0) here))
 
-is-marked-requires : tie.Need-is-marked-requires Inv-loop μ-loop
-is-marked-requires c κs = omega arith
+is-met-requires : tie.Need-is-met-requires Inv-loop μ-loop
+is-met-requires c κs = omega arith
 
 returns-2 : tie.Need-returns-2 Inv-loop μ-loop
 returns-2 c =
-    let a = c .before .before .before .before .before .before .before .before .before .before .args in
-    tells-no (λ all. c .before .is-marked .ensures .no (not-true _ (c .if2 .taken)) (all (getD (now (a .leaves)) (c .before .before .before .before .before .before .loop .i) 0) (member-of-part (a .size .leaves) (now (a .leaves)) (c .before .before .before .before .before .before .loop .i) (omega arith) (omega arith)) .1))
+    let at-loop = c .before .before .before .before .before .before in
+    let start = at-loop .before .before .before .before in
+    let a = start .args in
+    let i = at-loop .loop .i in
+    let here = member-of-part (a .size .leaves) (now (a .leaves)) i (omega arith) (omega arith) in
+    tells-no
+    (λ all. c .before .is-met .ensures .no (not-true _ (c .if2 .taken)) (all (getD (now (a .leaves)) i 0) here .1))
 
 add-i : tie.Need-add-i Inv-loop μ-loop
 add-i c = omega arith
@@ -52,12 +63,21 @@ loop-less : tie.Need-loop-less Inv-loop μ-loop
 loop-less c = omega arith
 
 loop-again : tie.Need-loop-again Inv-loop μ-loop
-loop-again c = (omega arith, below-more _ _ (c .before .before .before .before .before .before .loop .inv .1) (omega arith, c .before .is-marked .ensures .yes (not-false _ (c .if2 .left))))
+loop-again c =
+    let at-loop = c .before .before .before .before .before .before in (
+      omega arith,
+      below-more _ _ (at-loop .loop .inv .1)
+          (omega arith, c .before .is-met .ensures .yes (not-false _ (c .if2 .left))),
+    )
 
 returns-3 : tie.Need-returns-3 Inv-loop μ-loop
 returns-3 c =
-    let a = c .before .before .before .before .before .args in
-    tells-yes (each-of-part (λ (v : ℕ). (v < a .nodes) × (getD (now (a .met)) v 0 ≡ 1)) (a .size .leaves) (now (a .leaves)) (λ i low. c .before .loop .inv .1 i (omega arith)))
+    let start = c .before .before .before .before .before in
+    let a = start .args in
+    tells-yes
+    (each-of-part (λ (v : ℕ). (v < a .nodes) × (getD (metIn (now (a .roles))) v 0 ≡ 1)) (a .size .leaves)
+    (now (a .leaves))
+    (λ i low. c .before .loop .inv .1 i (omega arith)))
 
 pub leaves-met-spec : {M : Type 1} → statement M
 leaves-met-spec =
@@ -71,7 +91,7 @@ leaves-met-spec =
     shared-slice-read-t11
     cast-if1
     returns
-    is-marked-requires
+    is-met-requires
     returns-2
     add-i
     loop-less

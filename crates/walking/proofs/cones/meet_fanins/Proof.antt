@@ -1,41 +1,48 @@
 -- `meet_fanins` meets its contract: meeting the fanins from here on gives what meeting all of them gives.
 use native.Mathlib.Omega.{arith}
-use Prim.Native.Nat.{_<_, _-_, _+_, _*_}
+use Prim.Native.Nat.{_<_, _-_}
 use mathlib.Core.Path.{refl, sym, _∙_}
 use denote.Ref.{now}
-use lib.ListN.{getD, take}
-use Rattle.walking.specs.Listing.{faninsAt}
-use Rattle.walking.proofs.Entries.{fanin-member, fanin-entry, fanins-size}
-use Rattle.walking.proofs.Walks.{PassLeft, pass-turn, pass-end}
+use lib.ListN.{take}
+use Rattle.storage.specs.Lists.{sizeAt, entryAt, listAt}
+use Rattle.storage.proofs.InLists.{list-member, list-entry, list-size}
+use Rattle.walking.proofs.Walks.{MeetsLeft, meets-turn, meets-end}
 use Rattle.walking.proofs.cones.meet_fanins.Statement.{statement}
 use Rattle.walking.proofs.cones.meet_fanins.Tie as tie
 
 abbrev Inv-loop : tie.InvT-loop
-Inv-loop fan count gate leaves size walked₀ met₀ m i₀ walked met i = PassLeft (take (size .leaves) leaves) (faninsAt fan count (gate .id)) walked₀ met₀ walked met i
+Inv-loop fanins gate leaves size roles₀ m i₀ roles i =
+    MeetsLeft (take (size .leaves) leaves) (listAt fanins (gate .id)) roles₀ roles i
 
 abbrev μ-loop : tie.MeasureT-loop
-μ-loop fan count gate leaves size walked₀ met₀ m i₀ walked met i = m - i
+μ-loop fanins gate leaves size roles₀ m i₀ roles i = m - i
 
-fanins-requires : tie.Need-fanins-requires Inv-loop μ-loop
-fanins-requires c κs = (c .before .before .before .before .before .pre) .walked-room .count-long
+size-at-requires : tie.Need-size-at-requires Inv-loop μ-loop
+size-at-requires c κs =
+    let start = c .before .before .before in
+    omega (arith, start .pre .roles-room .long)
 
 loop-holds : tie.Need-loop-holds Inv-loop μ-loop
-loop-holds c = record { low = omega arith; walked-size = refl; met-size = refl; walks = refl; meets = refl }
+loop-holds c = record { low = omega arith; size = refl; meets = refl }
 
-fanin-requires : tie.Need-fanin-requires Inv-loop μ-loop
-fanin-requires c κs =
-    let six = (c .before .before .before .before .before .before .before .before .pre) .walked-room .six in
-    (omega (arith, c .before .before .fanins .ensures), (c .before .before .before .before .before .before .before .before .pre) .walked-room .fan-long)
+entry-at-requires : tie.Need-entry-at-requires Inv-loop μ-loop
+entry-at-requires c κs =
+    let start = c .before .before .before .before .before .before in
+    let room = start .pre .roles-room in
+    (omega (arith, room .six, c .before .before .size-at .ensures), room .long)
 
 meet-requires : tie.Need-meet-requires Inv-loop μ-loop
 meet-requires c κs =
-    let a = c .before .before .before .before .before .before .before .before .before .before .before .args in
-    let p = (c .before .before .before .before .before .before .before .before .before .before .before .pre) in
-    let i = c .before .before .before .before .loop .i in
-    let low : i < getD (now (a .count)) (a .gate .id) 0 = omega (arith, c .before .before .before .before .before .fanins .ensures) in
-    let here = fanin-member (now (a .fan)) (now (a .count)) (a .gate .id) (p .walked-room .fan-long) (p .walked-room .six) i low in
-    let u = getD (now (a .fan)) (6 * a .gate .id + i) 0 in
-    (p .leaves-long, (omega (arith, c .before .before .fanin .ensures, c .before .before .before .before .loop .inv .walked-size, p .walked-room .below u here), omega (arith, c .before .before .fanin .ensures, c .before .before .before .before .loop .inv .met-size, p .met-room .below u here)))
+    let at-loop = c .before .before .before in
+    let after-size-at = at-loop .before in
+    let start = after-size-at .before .before .before .before in
+    let a = start .args in
+    let p = start .pre in
+    let i = at-loop .loop .i in
+    let low : i < sizeAt (now (a .fanins)) (a .gate .id) = omega (arith, after-size-at .size-at .ensures) in
+    let here = list-member (now (a .fanins)) (a .gate .id) (p .roles-room .long) (p .roles-room .six) i low in
+    let below = p .roles-room .known (entryAt (now (a .fanins)) (a .gate .id) i) here in
+    (p .leaves-long, omega (arith, c .before .entry-at .ensures, at-loop .loop .inv .size))
 
 add-i : tie.Need-add-i Inv-loop μ-loop
 add-i c = omega arith
@@ -45,25 +52,32 @@ loop-less c = omega arith
 
 loop-again : tie.Need-loop-again Inv-loop μ-loop
 loop-again c =
-    let a = c .before .before .before .before .before .before .before .before .before .before .before .before .before .before .before .before .args in
-    let p = (c .before .before .before .before .before .before .before .before .before .before .before .before .before .before .before .before .pre) in
-    let i = c .before .before .before .before .before .before .before .before .before .loop .i in
-    let low : i < getD (now (a .count)) (a .gate .id) 0 = omega (arith, c .before .before .before .before .before .before .before .before .before .before .fanins .ensures) in
-    let size = fanins-size (now (a .fan)) (now (a .count)) (a .gate .id) (p .walked-room .fan-long) (p .walked-room .six) in
-    pass-turn (faninsAt (now (a .fan)) (now (a .count)) (a .gate .id)) (c .before .before .before .before .before .before .before .before .before .loop .inv) (omega (arith, size)) (c .before .before .before .before .before .before .before .fanin .ensures ∙ sym (fanin-entry (now (a .fan)) (now (a .count)) (a .gate .id) (p .walked-room .fan-long) (p .walked-room .six) i low)) (c .before .before .before .before .meet .kept .1 .1 .1 .0) (c .before .before .before .before .meet .kept .1 .1 .1 .1 .0) (c .before .before .before .before .meet .ensures)
+    let after-entry-at = c .before .before .before .before in
+    let at-loop = after-entry-at .before .before in
+    let after-size-at = at-loop .before in
+    let start = after-size-at .before .before .before .before in
+    let at-meet = c .before .before in
+    let a = start .args in
+    let room = start .pre .roles-room in
+    let i = at-loop .loop .i in
+    let low : i < sizeAt (now (a .fanins)) (a .gate .id) = omega (arith, after-size-at .size-at .ensures) in
+    let size = list-size (now (a .fanins)) (a .gate .id) (room .long) (room .six) in
+    let entry = list-entry (now (a .fanins)) (a .gate .id) (room .long) (room .six) i low in
+    meets-turn (listAt (now (a .fanins)) (a .gate .id)) (at-loop .loop .inv) (omega (arith, size))
+    (after-entry-at .entry-at .ensures ∙ sym entry) (at-meet .meet .ensures)
 
 same-length : tie.Need-same-length Inv-loop μ-loop
-same-length c = c .before .loop .inv .walked-size
-
-same-length-2 : tie.Need-same-length-2 Inv-loop μ-loop
-same-length-2 c = c .before .loop .inv .met-size
+same-length c = c .before .loop .inv .size
 
 returns : tie.Need-returns Inv-loop μ-loop
 returns c =
-    let a = c .before .before .before .before .before .before .before .before .args in
-    let p = (c .before .before .before .before .before .before .before .before .pre) in
-    let size = fanins-size (now (a .fan)) (now (a .count)) (a .gate .id) (p .walked-room .fan-long) (p .walked-room .six) in
-    pass-end (faninsAt (now (a .fan)) (now (a .count)) (a .gate .id)) (c .before .loop .inv) (omega (arith, size, c .before .before .fanins .ensures))
+    let start = c .before .before .before .before .before .before in
+    let at-size-at = c .before .before in
+    let a = start .args in
+    let room = start .pre .roles-room in
+    let size = list-size (now (a .fanins)) (a .gate .id) (room .long) (room .six) in
+    meets-end (listAt (now (a .fanins)) (a .gate .id)) (c .before .loop .inv)
+    (omega (arith, size, at-size-at .size-at .ensures))
 
 pub meet-fanins-spec : {M : Type 1} → statement M
 meet-fanins-spec =
@@ -71,13 +85,12 @@ meet-fanins-spec =
     (tie.spec
     Inv-loop
     μ-loop
-    fanins-requires
+    size-at-requires
     loop-holds
-    fanin-requires
+    entry-at-requires
     meet-requires
     add-i
     loop-less
     loop-again
     same-length
-    same-length-2
     returns)

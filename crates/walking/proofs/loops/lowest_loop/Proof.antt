@@ -2,39 +2,64 @@
 use native.Mathlib.Omega.{arith}
 use Prim.Native.Nat.{_-_}
 use mathlib.Core.Path.{_∙_}
-use Rattle.walking.proofs.Listings.{drawn-span}
-use Rattle.walking.proofs.Searches.{LowestLeft, lowest-none, lowest-turn, lowest-found, kept-same}
+use Rattle.storage.proofs.Drawings.{drawn-span}
+use Rattle.walking.proofs.Gatherings.{kept-same}
+use Rattle.walking.proofs.Searches.{LowestLeft, lowest-none, lowest-turn, lowest-found}
 use Rattle.walking.proofs.loops.lowest_loop.Statement.{statement}
 use Rattle.walking.proofs.loops.lowest_loop.Tie as tie
 
 abbrev Inv-loop : tie.InvT-loop
-Inv-loop fan count inputs nodes list₀ marks₀ v₀ list marks v = LowestLeft inputs nodes fan count list₀ marks₀ list marks v
+Inv-loop numbers fanins list₀ marks₀ nodes v₀ list marks v =
+    LowestLeft (numbers .inputs) (numbers .nodes) fanins list₀ marks₀ list marks v
 
 abbrev μ-loop : tie.MeasureT-loop
-μ-loop fan count inputs nodes list₀ marks₀ v₀ list marks v = nodes - v
+μ-loop numbers fanins list₀ marks₀ nodes v₀ list marks v = nodes - v
 
 loop-holds : tie.Need-loop-holds Inv-loop μ-loop
 loop-holds c =
-    let span = drawn-span ((c .before .before .before .before .pre) .drawn) in
+    let start = c .before .before .before in
+    let span = drawn-span (start .pre .drawn) in
     record { low = omega arith; high = omega arith; kept = kept-same; none = λ h low high. absurd (omega arith) }
 
-cast-t10 : tie.Need-cast-t10 Inv-loop μ-loop
-cast-t10 c = omega (arith, (c .before .before .before .before .before .before .pre) .ids)
+cast-t9 : tie.Need-cast-t9 Inv-loop μ-loop
+cast-t9 c =
+    let start = c .before .before .before .before .before in
+    omega (arith, start .pre .small)
 
 reaches-itself-requires : tie.Need-reaches-itself-requires Inv-loop μ-loop
 reaches-itself-requires c κs =
-    let p = (c .before .before .before .before .before .before .before .before .pre) in
-    let k = c .before .before .before .loop .inv .kept in
-    (record { drawn = p .drawn; ids = p .ids; order-long = omega (arith, p .order-long, k .list-size); marks-long = omega (arith, p .marks-long, k .marks-size) }, (c .before .before .before .loop .inv .low, c .before .before .loop-test .taken))
+    let at-loop = c .before .before .before in
+    let start = at-loop .before .before .before .before in
+    let p = start .pre in
+    let left = at-loop .loop .inv in (
+      record {
+        drawn = p .drawn;
+        small = p .small;
+        order-long = omega (arith, p .order-long, left .kept .list-rest .size);
+        marks-long = omega (arith, p .marks-long, left .kept .marks-rest .size);
+      },
+      (left .low, c .before .before .loop-test .taken),
+    )
 
 same-length : tie.Need-same-length Inv-loop μ-loop
-same-length c = c .before .before .before .before .before .reaches-itself .ensures .kept .list-size ∙ c .before .before .before .before .before .before .before .before .before .loop .inv .kept .list-size
+same-length c =
+    let after-reaches-itself = c .before .before .before .before .before in
+    let at-loop = after-reaches-itself .before .before .before .before in
+    after-reaches-itself .reaches-itself .ensures .kept .list-rest .size ∙ at-loop .loop .inv .kept .list-rest .size
 
 same-length-2 : tie.Need-same-length-2 Inv-loop μ-loop
-same-length-2 c = c .before .before .before .before .before .reaches-itself .ensures .kept .marks-size ∙ c .before .before .before .before .before .before .before .before .before .loop .inv .kept .marks-size
+same-length-2 c =
+    let after-reaches-itself = c .before .before .before .before .before in
+    let at-loop = after-reaches-itself .before .before .before .before in
+    after-reaches-itself .reaches-itself .ensures .kept .marks-rest .size ∙ at-loop .loop .inv .kept .marks-rest .size
 
 returns : tie.Need-returns Inv-loop μ-loop
-returns c = lowest-found (c .before .before .before .before .before .before .before .before .before .loop .inv) (c .before .before .before .before .before .before .before .before .loop-test .taken) (c .before .before .before .before .before .reaches-itself .ensures) (c .if1 .taken)
+returns c =
+    let after-reaches-itself = c .before .before .before .before .before in
+    let in-loop = after-reaches-itself .before .before .before in
+    let at-loop = in-loop .before in
+    lowest-found (at-loop .loop .inv) (in-loop .loop-test .taken) (after-reaches-itself .reaches-itself .ensures)
+    (c .if1 .taken)
 
 add-v : tie.Need-add-v Inv-loop μ-loop
 add-v c = omega arith
@@ -43,13 +68,18 @@ loop-less : tie.Need-loop-less Inv-loop μ-loop
 loop-less c = omega arith
 
 loop-again : tie.Need-loop-again Inv-loop μ-loop
-loop-again c = lowest-turn (c .before .before .before .before .before .before .before .before .before .loop .inv) (c .before .before .before .before .before .before .before .before .loop-test .taken) (c .before .before .before .before .before .reaches-itself .ensures) (c .if1 .left)
+loop-again c =
+    let after-reaches-itself = c .before .before .before .before .before in
+    let in-loop = after-reaches-itself .before .before .before in
+    let at-loop = in-loop .before in
+    lowest-turn (at-loop .loop .inv) (in-loop .loop-test .taken) (after-reaches-itself .reaches-itself .ensures)
+    (c .if1 .left)
 
 same-length-3 : tie.Need-same-length-3 Inv-loop μ-loop
-same-length-3 c = c .before .loop .inv .kept .list-size
+same-length-3 c = c .before .loop .inv .kept .list-rest .size
 
 same-length-4 : tie.Need-same-length-4 Inv-loop μ-loop
-same-length-4 c = c .before .loop .inv .kept .marks-size
+same-length-4 c = c .before .loop .inv .kept .marks-rest .size
 
 returns-2 : tie.Need-returns-2 Inv-loop μ-loop
 returns-2 c = lowest-none (c .before .loop .inv) (c .loop-test .left)
@@ -61,7 +91,7 @@ lowest-loop-spec =
     Inv-loop
     μ-loop
     loop-holds
-    cast-t10
+    cast-t9
     reaches-itself-requires
     same-length
     same-length-2

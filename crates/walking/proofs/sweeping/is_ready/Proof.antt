@@ -1,42 +1,62 @@
 -- `is_ready` meets its contract: each fanin passed is marked.
 use native.Mathlib.Omega.{arith}
-use Prim.Native.Nat.{ℕ, _≤_, _<_, _-_, _+_, _*_}
+use Prim.Native.Nat.{ℕ, _≤_, _<_, _-_}
 use mathlib.Core.Path.{_≡_, ap, sym, _∙_}
 use lib.ListN.{getD}
 use borrow.Author.Count.{below-more}
 use borrow.Author.Tests.{not-true, not-false}
 use denote.Ref.{now}
-use Rattle.walking.proofs.Tests.{tells-yes, tells-no, each-fanin}
-use Rattle.walking.proofs.Entries.{fanin-member}
+use Rattle.storage.specs.Lists.{entryAt}
+use Rattle.storage.proofs.InLists.{list-member, list-each}
+use Rattle.storage.proofs.InMarks.{tells-yes, tells-no}
 use Rattle.walking.proofs.sweeping.is_ready.Statement.{statement}
 use Rattle.walking.proofs.sweeping.is_ready.Tie as tie
 
 abbrev Inv-loop : tie.InvT-loop
-Inv-loop fan count gate marks m i₀ i = (i ≤ m) × ((j : ℕ) → j < i → getD marks (getD fan (6 * gate .id + j) 0) 0 ≡ 1)
+Inv-loop fanins gate marks m i₀ i = (i ≤ m) × ((j : ℕ) → j < i → getD marks (entryAt fanins (gate .id) j) 0 ≡ 1)
 
 abbrev μ-loop : tie.MeasureT-loop
-μ-loop fan count gate marks m i₀ i = m - i
+μ-loop fanins gate marks m i₀ i = m - i
 
-fanins-requires : tie.Need-fanins-requires Inv-loop μ-loop
-fanins-requires c κs = (c .before .before .before .pre) .count-long
+size-at-requires : tie.Need-size-at-requires Inv-loop μ-loop
+size-at-requires c κs = omega (arith, c .before .before .pre .long)
 
 loop-holds : tie.Need-loop-holds Inv-loop μ-loop
 loop-holds c = (omega arith, λ j low. absurd (omega arith))
 
-fanin-requires : tie.Need-fanin-requires Inv-loop μ-loop
-fanin-requires c κs = (omega arith, (c .before .before .before .before .before .before .pre) .fan-long)
+entry-at-requires : tie.Need-entry-at-requires Inv-loop μ-loop
+entry-at-requires c κs =
+    let start = c .before .before .before .before .before in
+    let at-size-at = c .before .before in
+    (omega (arith, start .pre .six, at-size-at .size-at .ensures), start .pre .long)
 
 is-marked-requires : tie.Need-is-marked-requires Inv-loop μ-loop
 is-marked-requires c κs =
-    let a = c .before .before .before .before .before .before .before .args in
-    let p = (c .before .before .before .before .before .before .before .pre) in
-    omega (arith, p .below (getD (now (a .fan)) (6 * a .gate .id + c .before .before .loop .i) 0) (fanin-member (now (a .fan)) (now (a .count)) (a .gate .id) (p .fan-long) (p .six) (c .before .before .loop .i) (omega arith)))
+    let after-size-at = c .before .before .before in
+    let start = after-size-at .before .before .before in
+    let at-loop = c .before .before in
+    let a = start .args in
+    let p = start .pre in
+    let i = at-loop .loop .i in
+    let here = list-member (now (a .fanins)) (a .gate .id) (p .long) (p .six) i
+    (omega (arith, after-size-at .size-at .ensures)) in
+    omega (arith, c .entry-at .ensures, p .known (entryAt (now (a .fanins)) (a .gate .id) i) here)
 
 returns : tie.Need-returns Inv-loop μ-loop
 returns c =
-    let a = c .before .before .before .before .before .before .before .before .before .args in
-    let p = (c .before .before .before .before .before .before .before .before .before .pre) in
-    tells-no (λ all. c .before .is-marked .ensures .no (not-true _ (c .if1 .taken)) (ap (λ (u : ℕ). getD (now (a .marks)) u 0) (c .before .before .fanin .ensures) ∙ all (getD (now (a .fan)) (6 * a .gate .id + c .before .before .before .before .loop .i) 0) (fanin-member (now (a .fan)) (now (a .count)) (a .gate .id) (p .fan-long) (p .six) (c .before .before .before .before .loop .i) (omega arith))))
+    let at-loop = c .before .before .before .before in
+    let after-size-at = at-loop .before in
+    let start = after-size-at .before .before .before in
+    let at-entry-at = c .before .before in
+    let a = start .args in
+    let p = start .pre in
+    let i = at-loop .loop .i in
+    let here = list-member (now (a .fanins)) (a .gate .id) (p .long) (p .six) i
+    (omega (arith, after-size-at .size-at .ensures)) in
+    tells-no (λ all.
+    c .before .is-marked .ensures .no (not-true _ (c .if1 .taken))
+    (ap (λ (u : ℕ). getD (now (a .marks)) u 0) (at-entry-at .entry-at .ensures)
+    ∙ all (entryAt (now (a .fanins)) (a .gate .id) i) here))
 
 add-i : tie.Need-add-i Inv-loop μ-loop
 add-i c = omega arith
@@ -46,13 +66,25 @@ loop-less c = omega arith
 
 loop-again : tie.Need-loop-again Inv-loop μ-loop
 loop-again c =
-    let a = c .before .before .before .before .before .before .before .before .before .args in
-    (omega arith, below-more _ _ (c .before .before .before .before .loop .inv .1) (ap (λ (u : ℕ). getD (now (a .marks)) u 0) (sym (c .before .before .fanin .ensures)) ∙ c .before .is-marked .ensures .yes (not-false _ (c .if1 .left))))
+    let at-loop = c .before .before .before .before in
+    let start = at-loop .before .before .before .before in
+    let at-entry-at = c .before .before in
+    let a = start .args in
+    let marked = c .before .is-marked .ensures .yes (not-false _ (c .if1 .left)) in (
+      omega arith,
+      below-more _ _ (at-loop .loop .inv .1)
+          (ap (λ (u : ℕ). getD (now (a .marks)) u 0) (sym (at-entry-at .entry-at .ensures)) ∙ marked),
+    )
 
 returns-2 : tie.Need-returns-2 Inv-loop μ-loop
 returns-2 c =
-    let a = c .before .before .before .before .before .before .args in
-    tells-yes (each-fanin (now (a .fan)) (now (a .count)) (a .gate .id) (λ (u : ℕ). getD (now (a .marks)) u 0 ≡ 1) (λ i low. c .before .loop .inv .1 i (omega arith)))
+    let start = c .before .before .before .before .before in
+    let at-size-at = c .before .before in
+    let a = start .args in
+    let each = c .before .loop .inv .1 in
+    tells-yes
+    (list-each (now (a .fanins)) (a .gate .id) (λ (u : ℕ). getD (now (a .marks)) u 0 ≡ 1)
+    (λ i low. each i (omega (arith, at-size-at .size-at .ensures))))
 
 pub is-ready-spec : {M : Type 1} → statement M
 is-ready-spec =
@@ -60,9 +92,9 @@ is-ready-spec =
     (tie.spec
     Inv-loop
     μ-loop
-    fanins-requires
+    size-at-requires
     loop-holds
-    fanin-requires
+    entry-at-requires
     is-marked-requires
     returns
     add-i

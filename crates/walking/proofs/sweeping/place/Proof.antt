@@ -1,8 +1,8 @@
 -- `place` meets its contract: by the marks of the gate and of its fanins.
 use mathlib.Core.Path.{refl}
 use borrow.Author.Tests.{not-true, not-false}
-use Rattle.walking.specs.Listing.{Added}
-use Rattle.walking.proofs.Listings.{added-ready}
+use Rattle.walking.specs.Gathering.{Added}
+use Rattle.walking.proofs.Gatherings.{added-ready}
 use borrow.Author.Needs.{needs}
 use Rattle.walking.proofs.sweeping.place.Statement.{statement}
 use Rattle.walking.proofs.sweeping.place.Tie as tie
@@ -35,7 +35,14 @@ same-length-4 : tie.Need-same-length-4
 same-length-4 c = search needs
 
 returns-3 : tie.Need-returns-3
-returns-3 c = added-ready (c .before .before .before .before .before .before .before .before .before .before .before .is-marked .ensures .no (c .before .before .before .before .before .before .before .before .before .before .if1 .left)) (c .before .before .before .before .before .before .before .before .is-ready .ensures .yes (not-false _ (c .before .before .before .before .before .before .before .if2 .left))) (c .before .before .before .before .add .ensures)
+returns-3 c =
+    let after-add = c .before .before .before .before in
+    let else2 = after-add .before .before .before in
+    let after-is-ready = else2 .before in
+    let else1 = after-is-ready .before .before in
+    let after-is-marked = else1 .before in
+    added-ready (after-is-marked .is-marked .ensures .no (else1 .if1 .left))
+    (after-is-ready .is-ready .ensures .yes (not-false _ (else2 .if2 .left))) (after-add .add .ensures)
 
 pub place-spec : {M : Type 1} → statement M
 place-spec =

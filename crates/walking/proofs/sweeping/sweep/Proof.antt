@@ -2,27 +2,36 @@
 use native.Mathlib.Omega.{arith}
 use Prim.Native.Nat.{_-_}
 use lib.ListN.{length}
-use Rattle.walking.proofs.Listings.{fanins-below, add-room}
+use Rattle.storage.proofs.Drawings.{fed-in}
+use Rattle.walking.proofs.Gatherings.{add-room}
 use Rattle.walking.proofs.SweepLoops.{SweepLeft, sweep-start, sweep-turn, sweep-end}
 use Rattle.walking.proofs.sweeping.sweep.Statement.{statement}
 use Rattle.walking.proofs.sweeping.sweep.Tie as tie
 
 abbrev Inv-loop : tie.InvT-loop
-Inv-loop fan count inputs nodes order₀ marks₀ size placed₀ v₀ order marks placed v = SweepLeft inputs nodes fan count order₀ marks₀ size order marks placed v
+Inv-loop fanins order₀ marks₀ size nodes placed₀ inputs order marks placed v =
+    SweepLeft inputs nodes fanins order₀ marks₀ size order marks placed v
 
 abbrev μ-loop : tie.MeasureT-loop
-μ-loop fan count inputs nodes order₀ marks₀ size placed₀ v₀ order marks placed v = nodes - v
+μ-loop fanins order₀ marks₀ size nodes placed₀ inputs order marks placed v = nodes - v
 
 loop-holds : tie.Need-loop-holds Inv-loop μ-loop
-loop-holds c = sweep-start (c .before .before .before .before .pre)
+loop-holds c =
+    let start = c .before .before .before in
+    sweep-start (start .pre)
 
-cast-t15 : tie.Need-cast-t15 Inv-loop μ-loop
-cast-t15 c = omega (arith, (c .before .before .before .before .before .before .before .before .pre) .ids)
+cast-t14 : tie.Need-cast-t14 Inv-loop μ-loop
+cast-t14 c =
+    let start = c .before .before .before .before .before .before .before in
+    omega (arith, start .pre .small)
 
 place-requires : tie.Need-place-requires Inv-loop μ-loop
 place-requires c κs =
-    let l = c .before .before .before .loop .inv .listed .listing in
-    (fanins-below (l .drawn) (c .before .before .before .loop .v) (length (c .before .before .before .loop .marks)) (omega arith) (l .marks-long), add-room l (c .before .before .before .loop .v) (omega arith))
+    let at-loop = c .before .before .before in
+    let l = at-loop .loop .inv .listed .listing in (
+      fed-in (l .drawn) (at-loop .loop .v) (omega arith) (length (at-loop .loop .marks)) (l .marks-long),
+      add-room l (at-loop .loop .v) (omega arith),
+    )
 
 add-v : tie.Need-add-v Inv-loop μ-loop
 add-v c = omega arith
@@ -31,13 +40,16 @@ loop-less : tie.Need-loop-less Inv-loop μ-loop
 loop-less c = omega arith
 
 loop-again : tie.Need-loop-again Inv-loop μ-loop
-loop-again c = sweep-turn (c .before .before .before .before .before .before .before .before .loop .inv) (omega arith) (c .before .before .before .before .place .ensures)
+loop-again c =
+    let after-place = c .before .before .before .before in
+    let at-loop = after-place .before .before .before .before in
+    sweep-turn (at-loop .loop .inv) (omega arith) (after-place .place .ensures)
 
 same-length : tie.Need-same-length Inv-loop μ-loop
-same-length c = c .before .loop .inv .listed .list-size
+same-length c = c .before .loop .inv .listed .kept .list-rest .size
 
 same-length-2 : tie.Need-same-length-2 Inv-loop μ-loop
-same-length-2 c = c .before .loop .inv .listed .marks-size
+same-length-2 c = c .before .loop .inv .listed .kept .marks-rest .size
 
 returns : tie.Need-returns Inv-loop μ-loop
 returns c = sweep-end (c .before .loop .inv) (omega arith)
@@ -49,7 +61,7 @@ sweep-spec =
     Inv-loop
     μ-loop
     loop-holds
-    cast-t15
+    cast-t14
     place-requires
     add-v
     loop-less

@@ -3,7 +3,7 @@ use native.Mathlib.Omega.{arith}
 use Prim.Native.Nat.{ℕ}
 use mathlib.Core.Path.{_≡_}
 use borrow.Author.Needs.{needs}
-use Rattle.walking.proofs.Tests.{tells-yes, tells-no}
+use Rattle.storage.proofs.InMarks.{tells-yes, tells-no}
 use Rattle.weighing.proofs.luts.is_kept.Statement.{statement}
 use Rattle.weighing.proofs.luts.is_kept.Tie as tie
 

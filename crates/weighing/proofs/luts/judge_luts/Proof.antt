@@ -10,9 +10,6 @@ judge-nodes-requires c κs = search needs
 clear-requires : tie.Need-clear-requires
 clear-requires c κs = search needs
 
-clear-requires-2 : tie.Need-clear-requires-2
-clear-requires-2 c κs = search needs
-
 clear-words-requires : tie.Need-clear-words-requires
 clear-words-requires c κs = search needs
 
@@ -22,11 +19,14 @@ same-length c = search needs
 same-length-2 : tie.Need-same-length-2
 same-length-2 c = search needs
 
-same-length-3 : tie.Need-same-length-3
-same-length-3 c = search needs
-
 returns : tie.Need-returns
-returns c = luts-answered (c .before .before .before .before .before .before .before .before .before .before .before .before .before .before .before .before .before .before .judge-nodes .ensures) (c .before .before .before .before .before .before .before .before .before .before .clear .ensures) (c .before .before .before .before .before .before .clear2 .ensures) (c .before .before .clear-words .ensures)
+returns c =
+    let after-clear = c .before .before .before .before .before .before in
+    let after-judge-nodes = after-clear .before .before .before .before .before .before in
+    let clear-words = c .before .before .clear-words in
+    let clear = after-clear .clear in
+    let judge-nodes = after-judge-nodes .judge-nodes in
+    luts-answered (judge-nodes .ensures) (clear .ensures) (clear-words .ensures)
 
 pub judge-luts-spec : {M : Type 1} → statement M
 judge-luts-spec =
@@ -34,9 +34,7 @@ judge-luts-spec =
     (tie.spec
     judge-nodes-requires
     clear-requires
-    clear-requires-2
     clear-words-requires
     same-length
     same-length-2
-    same-length-3
     returns)

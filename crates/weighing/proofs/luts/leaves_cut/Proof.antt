@@ -1,18 +1,17 @@
 -- `leaves_cut` meets its contract.
-use denote.Ref.{now}
 use Rattle.weighing.proofs.Rulings.{walk-room, cut-told}
 use borrow.Author.Needs.{needs}
 use Rattle.weighing.proofs.luts.leaves_cut.Statement.{statement}
 use Rattle.weighing.proofs.luts.leaves_cut.Tie as tie
 
-cast-v : tie.Need-cast-v
-cast-v c = search needs
+cast-at : tie.Need-cast-at
+cast-at c = search needs
 
 mul-at : tie.Need-mul-at
 mul-at c = search needs
 
-shared-slice-read-t16 : tie.Need-shared-slice-read-t16
-shared-slice-read-t16 c = search needs
+add-at : tie.Need-add-at
+add-at c = search needs
 
 mul-is-cut : tie.Need-mul-is-cut
 mul-is-cut c = search needs
@@ -26,34 +25,39 @@ part-is-cut-start c = search needs
 part-is-cut-end : tie.Need-part-is-cut-end
 part-is-cut-end c = search needs
 
+cut-size-requires : tie.Need-cut-size-requires
+cut-size-requires c κs = search needs
+
 is-cut-requires : tie.Need-is-cut-requires
 is-cut-requires c κs =
-    let a = c .before .before .before .before .before .before .before .before .before .before .before .before .args in
-    walk-room (a .inputs) (a .nodes) (a .k .leaves) (now (a .fan)) (now (a .count)) (now (a .order)) (now (a .leaves)) (now (a .sizes)) (now (a .walked)) (now (a .met)) (a .root .id) (c .before .before .before .before .before .before .before .before .before .before .before .before .pre)
+    let start = c .before .before .before .before .before .before .before .before in
+    let pre = start .pre in
+    walk-room pre (c .before .cut-size .ensures)
 
 same-length : tie.Need-same-length
 same-length c = search needs
 
-same-length-2 : tie.Need-same-length-2
-same-length-2 c = search needs
-
 returns : tie.Need-returns
 returns c =
-    let a = c .before .before .before .before .before .before .before .before .before .before .before .before .before .before .before .before .before .args in
-    cut-told (a .inputs) (a .nodes) (a .k .leaves) (now (a .fan)) (now (a .count)) (now (a .order)) (now (a .leaves)) (now (a .sizes)) (now (a .walked)) (now (a .met)) (a .root .id) (c .before .before .before .before .before .before .before .before .before .before .before .before .before .before .before .before .before .pre) (c .before .before .before .before .is-cut .ensures)
+    let after-cut-size = c .before .before .before .before in
+    let start = after-cut-size .before .before .before .before .before .before .before in
+    let is-cut = c .before .before .is-cut in
+    let cut-size = after-cut-size .cut-size in
+    let pre = start .pre in
+    cut-told pre (cut-size .ensures) (is-cut .ensures)
 
 pub leaves-cut-spec : {M : Type 1} → statement M
 leaves-cut-spec =
     tie.close
     (tie.spec
-    cast-v
+    cast-at
     mul-at
-    shared-slice-read-t16
+    add-at
     mul-is-cut
     sub-is-cut
     part-is-cut-start
     part-is-cut-end
+    cut-size-requires
     is-cut-requires
     same-length
-    same-length-2
     returns)

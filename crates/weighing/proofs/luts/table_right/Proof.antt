@@ -1,5 +1,4 @@
 -- `table_right` meets its contract: a cone has one table.
-use denote.Ref.{now}
 use Rattle.weighing.proofs.Rulings.{cone-asked, function-told}
 use borrow.Author.Needs.{needs}
 use Rattle.weighing.proofs.luts.table_right.Statement.{statement}
@@ -11,8 +10,8 @@ cast-v c = search needs
 mul-at : tie.Need-mul-at
 mul-at c = search needs
 
-shared-slice-read-t17 : tie.Need-shared-slice-read-t17
-shared-slice-read-t17 c = search needs
+add-at : tie.Need-add-at
+add-at c = search needs
 
 mul-cone-table : tie.Need-mul-cone-table
 mul-cone-table c = search needs
@@ -26,10 +25,14 @@ part-cone-table-start c = search needs
 part-cone-table-end : tie.Need-part-cone-table-end
 part-cone-table-end c = search needs
 
+cut-size-requires : tie.Need-cut-size-requires
+cut-size-requires c κs = search needs
+
 cone-table-requires : tie.Need-cone-table-requires
 cone-table-requires c κs =
-    let a = c .before .before .before .before .before .before .before .before .before .before .before .before .args in
-    cone-asked (a .inputs) (a .nodes) (now (a .fan)) (now (a .count)) (now (a .rows)) (now (a .order)) (now (a .leaves)) (now (a .sizes)) (now (a .tables)) (now (a .values)) (a .root .id) (c .before .before .before .before .before .before .before .before .before .before .before .before .pre)
+    let start = c .before .before .before .before .before .before .before .before .before .before in
+    let pre = start .pre in
+    cone-asked pre (c .before .cut-size .ensures)
 
 mul-result : tie.Need-mul-result
 mul-result c = search needs
@@ -42,8 +45,13 @@ same-length c = search needs
 
 returns : tie.Need-returns
 returns c =
-    let a = c .before .before .before .before .before .before .before .before .before .before .before .before .before .before .before .before .args in
-    function-told (a .inputs) (a .nodes) (now (a .fan)) (now (a .count)) (now (a .rows)) (now (a .order)) (now (a .leaves)) (now (a .sizes)) (now (a .tables)) (now (a .values)) (a .root .id) (c .before .before .before .before .before .before .before .before .before .before .before .before .before .before .before .before .pre) (c .before .before .before .cone-table .ensures)
+    let after-cone-table = c .before .before .before in
+    let after-cut-size = after-cone-table .before .before in
+    let start = after-cut-size .before .before .before .before .before .before .before .before .before in
+    let cone-table = after-cone-table .cone-table in
+    let cut-size = after-cut-size .cut-size in
+    let pre = start .pre in
+    function-told pre (cut-size .ensures) (cone-table .ensures)
 
 pub table-right-spec : {M : Type 1} → statement M
 table-right-spec =
@@ -51,11 +59,12 @@ table-right-spec =
     (tie.spec
     cast-v
     mul-at
-    shared-slice-read-t17
+    add-at
     mul-cone-table
     sub-cone-table
     part-cone-table-start
     part-cone-table-end
+    cut-size-requires
     cone-table-requires
     mul-result
     shared-slice-read-result

@@ -1,46 +1,84 @@
 -- `find_depths` meets its contract: the roots among the gates passed have their depths.
 use native.Mathlib.Omega.{arith}
 use Prim.Native.Nat.{_-_}
-use denote.Ref.{now}
 use Rattle.weighing.proofs.Deep.{DepthsUpto, depths-begin, depth-fits, depths-more, depths-all}
 use Rattle.weighing.proofs.whole.find_depths.Statement.{statement}
 use Rattle.weighing.proofs.whole.find_depths.Tie as tie
 
 abbrev Inv-loop : tie.InvT-loop
-Inv-loop inputs nodes order roots leaves sizes depths₀ gates i₀ depths i = DepthsUpto inputs nodes order roots leaves sizes depths₀ i depths
+Inv-loop order luts cuts depths₀ inputs nodes gates i₀ depths i =
+    DepthsUpto inputs nodes order luts cuts depths₀ i depths
 
 abbrev μ-loop : tie.MeasureT-loop
-μ-loop inputs nodes order roots leaves sizes depths₀ gates i₀ depths i = gates - i
+μ-loop order luts cuts depths₀ inputs nodes gates i₀ depths i = gates - i
 
 sub-gates : tie.Need-sub-gates Inv-loop μ-loop
-sub-gates c = (c .before .before .before .before .before .pre) .chosen .span
+sub-gates c =
+    let start = c .before .before .before .before in
+    let pre = start .pre in
+    pre .chosen .span
 
 loop-holds : tie.Need-loop-holds Inv-loop μ-loop
-loop-holds c = let a = c .before .before .before .before .before .args in depths-begin (a .inputs) (a .nodes) (now (a .order)) (now (a .roots)) (now (a .leaves)) (now (a .sizes)) (now (a .depths)) (c .before .before .before .before .before .pre)
+loop-holds c =
+    let start = c .before .before .before .before in
+    let pre = start .pre in
+    depths-begin pre
 
 mul-t12 : tie.Need-mul-t12 Inv-loop μ-loop
-mul-t12 c = omega (arith, (c .before .before .before .before .before .before .before .pre) .chosen .order-long, c .before .before .before .before .before .before .before .good, c .loop-test .taken)
+mul-t12 c =
+    let start = c .before .before .before .before .before .before in
+    let good = start .good in
+    let pre = start .pre in
+    omega (arith, pre .chosen .order-long, good, c .loop-test .taken)
 
 shared-slice-read-t14 : tie.Need-shared-slice-read-t14 Inv-loop μ-loop
-shared-slice-read-t14 c = omega (arith, (c .before .before .before .before .before .before .before .before .pre) .chosen .order-long, c .before .loop-test .taken)
+shared-slice-read-t14 c =
+    let start = c .before .before .before .before .before .before .before in
+    let pre = start .pre in
+    omega (arith, pre .chosen .order-long, c .before .loop-test .taken)
 
 set-depth-requires : tie.Need-set-depth-requires Inv-loop μ-loop
-set-depth-requires c κs = let a = c .before .before .before .before .before .before .before .before .before .args in depth-fits (a .inputs) (a .nodes) (now (a .order)) (now (a .roots)) (now (a .leaves)) (now (a .sizes)) (now (a .depths)) (c .before .before .before .before .before .before .before .before .before .pre) (c .before .before .before .loop .i) (c .before .before .loop-test .taken) (c .before .before .before .loop .inv)
+set-depth-requires c κs =
+    let at-loop = c .before .before .before in
+    let start = at-loop .before .before .before .before .before in
+    let loop-test = c .before .before .loop-test in
+    let loop = at-loop .loop in
+    let pre = start .pre in
+    depth-fits pre (loop .i) (loop-test .taken) (loop .inv)
 
 add-i : tie.Need-add-i Inv-loop μ-loop
-add-i c = omega (arith, (c .before .before .before .before .before .before .before .before .before .before .before .before .pre) .ids, c .before .before .before .before .before .loop-test .taken)
+add-i c =
+    let in-loop = c .before .before .before .before .before in
+    let start = in-loop .before .before .before .before .before .before in
+    let loop-test = in-loop .loop-test in
+    let pre = start .pre in
+    omega (arith, pre .small, loop-test .taken)
 
 loop-less : tie.Need-loop-less Inv-loop μ-loop
-loop-less c = omega (arith, c .before .before .before .before .before .loop-test .taken)
+loop-less c =
+    let in-loop = c .before .before .before .before .before in
+    let loop-test = in-loop .loop-test in
+    omega (arith, loop-test .taken)
 
 loop-again : tie.Need-loop-again Inv-loop μ-loop
-loop-again c = let a = c .before .before .before .before .before .before .before .before .before .before .before .before .args in depths-more (a .inputs) (a .nodes) (now (a .order)) (now (a .roots)) (now (a .leaves)) (now (a .sizes)) (now (a .depths)) (c .before .before .before .before .before .before .before .before .before .before .before .before .pre) (c .before .before .before .before .before .before .loop .i) (c .before .before .before .before .before .loop-test .taken) (c .before .before .before .before .before .before .loop .inv) (c .before .before .set-depth .ensures)
+loop-again c =
+    let in-loop = c .before .before .before .before .before in
+    let at-loop = in-loop .before in
+    let start = at-loop .before .before .before .before .before in
+    let set-depth = c .before .before .set-depth in
+    let loop-test = in-loop .loop-test in
+    let loop = at-loop .loop in
+    let pre = start .pre in
+    depths-more pre (loop .i) (loop-test .taken) (loop .inv) (set-depth .ensures)
 
 same-length : tie.Need-same-length Inv-loop μ-loop
-same-length c = c .before .loop .inv .left .long
+same-length c = c .before .loop .inv .rest .size
 
 returns : tie.Need-returns Inv-loop μ-loop
-returns c = let a = c .before .before .before .before .before .before .before .args in depths-all (a .inputs) (a .nodes) (now (a .order)) (now (a .roots)) (now (a .leaves)) (now (a .sizes)) (now (a .depths)) (c .before .before .before .before .before .before .before .pre) (omega (arith, c .loop-test .left)) (c .before .loop .inv)
+returns c =
+    let start = c .before .before .before .before .before .before in
+    let pre = start .pre in
+    depths-all pre (omega (arith, c .loop-test .left)) (c .before .loop .inv)
 
 pub find-depths-spec : {M : Type 1} → statement M
 find-depths-spec =

@@ -1,6 +1,4 @@
 -- `judge_wanted` meets its contract.
-use lib.ListN.{length}
-use denote.Ref.{now}
 use Rattle.weighing.proofs.Wanted.{cover-told}
 use borrow.Author.Needs.{needs}
 use Rattle.weighing.proofs.whole.judge_wanted.Statement.{statement}
@@ -19,7 +17,15 @@ same-length : tie.Need-same-length
 same-length c = search needs
 
 returns : tie.Need-returns
-returns c = let a = c .before .before .before .before .before .before .before .before .before .before .before .before .before .before .before .args in cover-told (a .inputs) (a .nodes) (now (a .roots)) (now (a .leaves)) (now (a .sizes)) (now (a .outputs)) (a .number) (length (now (a .wanted))) (c .before .before .before .before .before .before .before .before .before .before .before .before .before .before .before .pre) (c .before .before .before .before .before .before .before .before .mark-wanted .ensures) (c .before .before .before .before .first-uncovered .ensures) (c .before .before .clear .ensures)
+returns c =
+    let after-first-uncovered = c .before .before .before .before in
+    let after-mark-wanted = after-first-uncovered .before .before .before .before in
+    let start = after-mark-wanted .before .before .before .before .before .before in
+    let clear = c .before .before .clear in
+    let first-uncovered = after-first-uncovered .first-uncovered in
+    let mark-wanted = after-mark-wanted .mark-wanted in
+    let pre = start .pre in
+    cover-told pre (mark-wanted .ensures) (first-uncovered .ensures) (clear .ensures)
 
 pub judge-wanted-spec : {M : Type 1} → statement M
 judge-wanted-spec =

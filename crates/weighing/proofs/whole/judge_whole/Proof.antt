@@ -1,17 +1,20 @@
--- `judge_whole` meets its contract.
+-- `judge_whole` meets its contract: 28, then 30.
 use native.Mathlib.Omega.{arith}
 use borrow.Author.Tests.{not-true, not-false}
-use denote.Ref.{now}
-use Rattle.weighing.proofs.Deep.{cover-asked, labels-asked, whole-cover, deep-asked, whole-not-reached, whole-not-labelled, whole-kept}
+use Rattle.weighing.proofs.Deep.{cover-asked, labels-asked, whole-cover, deep-asked, whole-not-reached}
+use Rattle.weighing.proofs.Deep.{whole-not-labelled, whole-kept}
 use borrow.Author.Needs.{needs}
 use Rattle.weighing.proofs.whole.judge_whole.Statement.{statement}
 use Rattle.weighing.proofs.whole.judge_whole.Tie as tie
 
-clear-numbers-requires : tie.Need-clear-numbers-requires
-clear-numbers-requires c κs = search needs
+clear-requires : tie.Need-clear-requires
+clear-requires c κs = search needs
 
 judge-wanted-requires : tie.Need-judge-wanted-requires
-judge-wanted-requires c κs = let a = c .before .before .before .before .before .before .before .before .before .before .before .before .before .args in cover-asked (a .inputs) (a .nodes) (now (a .order)) (now (a .roots)) (now (a .leaves)) (now (a .sizes)) (now (a .outputs)) (a .number) (now (a .labels)) (now (a .wanted)) (now (a .depths)) (c .before .before .before .before .before .before .before .before .before .before .before .before .before .pre)
+judge-wanted-requires c κs =
+    let start = c .before .before .before .before .before .before .before .before .before .before .before .before in
+    let pre = start .pre in
+    cover-asked pre
 
 is-kept-requires : tie.Need-is-kept-requires
 is-kept-requires c κs = search needs
@@ -23,10 +26,27 @@ same-length-2 : tie.Need-same-length-2
 same-length-2 c = search needs
 
 returns : tie.Need-returns
-returns c = let a = c .before .before .before .before .before .before .before .before .before .before .before .before .before .before .before .before .before .before .args in whole-cover (a .inputs) (a .nodes) (now (a .order)) (now (a .roots)) (now (a .leaves)) (now (a .sizes)) (now (a .outputs)) (a .number) (now (a .labels)) (now (a .wanted)) (now (a .depths)) (c .before .before .before .before .before .before .before .before .before .before .before .before .before .before .before .before .before .before .pre) (c .before .before .before .before .before .before .before .before .clear-numbers .ensures) (c .before .before .before .before .judge-wanted .ensures) (a .head .depth) (c .before .is-kept .ensures .no (not-true _ (c .if1 .taken)))
+returns c =
+    let after-judge-wanted = c .before .before .before .before in
+    let after-clear = after-judge-wanted .before .before .before .before in
+    let start = after-clear .before .before .before .before .before .before .before .before .before in
+    let judge-wanted = after-judge-wanted .judge-wanted in
+    let clear = after-clear .clear in
+    let args = start .args in
+    let pre = start .pre in
+    whole-cover pre (clear .ensures) (judge-wanted .ensures) (args .head .depth)
+    (c .before .is-kept .ensures .no (not-true _ (c .if1 .taken)))
 
 cover-depth-requires : tie.Need-cover-depth-requires
-cover-depth-requires c κs = let a = c .before .before .before .before .before .before .before .before .before .before .before .before .before .before .before .before .before .before .before .args in deep-asked (a .inputs) (a .nodes) (now (a .order)) (now (a .roots)) (now (a .leaves)) (now (a .sizes)) (now (a .outputs)) (a .number) (now (a .labels)) (now (a .wanted)) (now (a .depths)) (c .before .before .before .before .before .before .before .before .before .before .before .before .before .before .before .before .before .before .before .pre) (c .before .before .before .before .before .before .before .before .before .clear-numbers .ensures) (c .before .before .before .before .before .judge-wanted .ensures) (c .before .before .is-kept .ensures .yes (not-false _ (c .before .if1 .left)))
+cover-depth-requires c κs =
+    let after-judge-wanted = c .before .before .before .before .before in
+    let after-clear = after-judge-wanted .before .before .before .before in
+    let start = after-clear .before .before .before .before .before .before .before .before .before in
+    let is-kept = c .before .before .is-kept in
+    let judge-wanted = after-judge-wanted .judge-wanted in
+    let clear = after-clear .clear in
+    let pre = start .pre in
+    deep-asked pre (clear .ensures) (judge-wanted .ensures) (is-kept .ensures .yes (not-false _ (c .before .if1 .left)))
 
 same-length-3 : tie.Need-same-length-3
 same-length-3 c = search needs
@@ -35,10 +55,30 @@ same-length-4 : tie.Need-same-length-4
 same-length-4 c = search needs
 
 returns-2 : tie.Need-returns-2
-returns-2 c = let a = c .before .before .before .before .before .before .before .before .before .before .before .before .before .before .before .before .before .before .before .before .before .before .before .before .before .args in whole-not-reached (a .inputs) (a .nodes) (now (a .order)) (now (a .roots)) (now (a .leaves)) (now (a .sizes)) (now (a .outputs)) (a .number) (now (a .labels)) (now (a .wanted)) (now (a .depths)) (c .before .before .before .before .before .before .before .before .before .before .before .before .before .before .before .before .before .before .before .before .before .before .before .before .before .pre) (c .before .before .before .before .before .before .before .before .before .before .before .before .before .before .before .clear-numbers .ensures) (c .before .before .before .before .before .before .before .before .before .before .before .judge-wanted .ensures) (c .before .before .before .before .before .before .before .before .is-kept .ensures .yes (not-false _ (c .before .before .before .before .before .before .before .if1 .left))) (c .before .before .before .before .before .cover-depth .ensures) (a .head .depth) (c .if2 .taken)
+returns-2 c =
+    let after-cover-depth = c .before .before .before .before .before in
+    let else1 = after-cover-depth .before .before in
+    let after-is-kept = else1 .before in
+    let after-judge-wanted = after-is-kept .before .before .before in
+    let after-clear = after-judge-wanted .before .before .before .before in
+    let start = after-clear .before .before .before .before .before .before .before .before .before in
+    let cover-depth = after-cover-depth .cover-depth in
+    let if1 = else1 .if1 in
+    let is-kept = after-is-kept .is-kept in
+    let judge-wanted = after-judge-wanted .judge-wanted in
+    let clear = after-clear .clear in
+    let args = start .args in
+    let pre = start .pre in
+    let kept = is-kept .ensures .yes (not-false _ (if1 .left)) in
+    whole-not-reached pre (clear .ensures) (judge-wanted .ensures) kept (cover-depth .ensures) (args .head .depth)
+    (c .if2 .taken)
 
 depth-requires : tie.Need-depth-requires
-depth-requires c κs = let a = c .before .before .before .before .before .before .before .before .before .before .before .before .before .before .before .before .before .before .before .before .before .before .before .before .before .args in labels-asked (a .inputs) (a .nodes) (now (a .order)) (now (a .roots)) (now (a .leaves)) (now (a .sizes)) (now (a .outputs)) (a .number) (now (a .labels)) (now (a .wanted)) (now (a .depths)) (c .before .before .before .before .before .before .before .before .before .before .before .before .before .before .before .before .before .before .before .before .before .before .before .before .before .pre)
+depth-requires c κs =
+    let start = c .before .before .before .before .before .before .before .before .before .before .before .before
+    .before .before .before .before .before .before .before .before .before .before .before .before in
+    let pre = start .pre in
+    labels-asked pre
 
 same-length-5 : tie.Need-same-length-5
 same-length-5 c = search needs
@@ -47,7 +87,28 @@ same-length-6 : tie.Need-same-length-6
 same-length-6 c = search needs
 
 returns-3 : tie.Need-returns-3
-returns-3 c = let a = c .before .before .before .before .before .before .before .before .before .before .before .before .before .before .before .before .before .before .before .before .before .before .before .before .before .before .before .before .before .args in whole-not-labelled (a .inputs) (a .nodes) (now (a .order)) (now (a .roots)) (now (a .leaves)) (now (a .sizes)) (now (a .outputs)) (a .number) (now (a .labels)) (now (a .wanted)) (now (a .depths)) (c .before .before .before .before .before .before .before .before .before .before .before .before .before .before .before .before .before .before .before .before .before .before .before .before .before .before .before .before .before .pre) (c .before .before .before .before .before .before .before .before .before .before .before .before .before .before .before .before .before .before .before .clear-numbers .ensures) (c .before .before .before .before .before .before .before .before .before .before .before .before .before .before .before .judge-wanted .ensures) (c .before .before .before .before .before .before .before .before .before .before .before .before .is-kept .ensures .yes (not-false _ (c .before .before .before .before .before .before .before .before .before .before .before .if1 .left))) (c .before .before .before .before .before .before .before .before .before .cover-depth .ensures) (a .head .depth) (c .before .before .before .depth .ensures) (λ e. omega (arith, e, c .if3 .taken, c .before .before .before .before .if2 .left))
+returns-3 c =
+    let after-depth = c .before .before .before in
+    let else2 = after-depth .before in
+    let after-cover-depth = else2 .before .before .before .before .before in
+    let else1 = after-cover-depth .before .before in
+    let after-is-kept = else1 .before in
+    let after-judge-wanted = after-is-kept .before .before .before in
+    let after-clear = after-judge-wanted .before .before .before .before in
+    let start = after-clear .before .before .before .before .before .before .before .before .before in
+    let depth = after-depth .depth in
+    let if2 = else2 .if2 in
+    let cover-depth = after-cover-depth .cover-depth in
+    let if1 = else1 .if1 in
+    let is-kept = after-is-kept .is-kept in
+    let judge-wanted = after-judge-wanted .judge-wanted in
+    let clear = after-clear .clear in
+    let args = start .args in
+    let pre = start .pre in
+    let kept = is-kept .ensures .yes (not-false _ (if1 .left)) in
+    let head = args .head .depth in
+    whole-not-labelled pre (clear .ensures) (judge-wanted .ensures) kept (cover-depth .ensures) head
+    (depth .ensures) (λ e. omega (arith, e, c .if3 .taken, if2 .left))
 
 same-length-7 : tie.Need-same-length-7
 same-length-7 c = search needs
@@ -56,13 +117,34 @@ same-length-8 : tie.Need-same-length-8
 same-length-8 c = search needs
 
 returns-4 : tie.Need-returns-4
-returns-4 c = let a = c .before .before .before .before .before .before .before .before .before .before .before .before .before .before .before .before .before .before .before .before .before .before .before .before .before .before .before .before .before .args in whole-kept (a .inputs) (a .nodes) (now (a .order)) (now (a .roots)) (now (a .leaves)) (now (a .sizes)) (now (a .outputs)) (a .number) (now (a .labels)) (now (a .wanted)) (now (a .depths)) (c .before .before .before .before .before .before .before .before .before .before .before .before .before .before .before .before .before .before .before .before .before .before .before .before .before .before .before .before .before .pre) (c .before .before .before .before .before .before .before .before .before .before .before .before .before .before .before .before .before .before .before .clear-numbers .ensures) (c .before .before .before .before .before .before .before .before .before .before .before .before .before .before .before .judge-wanted .ensures) (c .before .before .before .before .before .before .before .before .before .before .before .before .is-kept .ensures .yes (not-false _ (c .before .before .before .before .before .before .before .before .before .before .before .if1 .left))) (c .before .before .before .before .before .before .before .before .before .cover-depth .ensures) (a .head .depth) (c .before .before .before .depth .ensures) (c .before .before .before .before .if2 .left) (omega (arith, c .if3 .left))
+returns-4 c =
+    let after-depth = c .before .before .before in
+    let else2 = after-depth .before in
+    let after-cover-depth = else2 .before .before .before .before .before in
+    let else1 = after-cover-depth .before .before in
+    let after-is-kept = else1 .before in
+    let after-judge-wanted = after-is-kept .before .before .before in
+    let after-clear = after-judge-wanted .before .before .before .before in
+    let start = after-clear .before .before .before .before .before .before .before .before .before in
+    let depth = after-depth .depth in
+    let if2 = else2 .if2 in
+    let cover-depth = after-cover-depth .cover-depth in
+    let if1 = else1 .if1 in
+    let is-kept = after-is-kept .is-kept in
+    let judge-wanted = after-judge-wanted .judge-wanted in
+    let clear = after-clear .clear in
+    let args = start .args in
+    let pre = start .pre in
+    let kept = is-kept .ensures .yes (not-false _ (if1 .left)) in
+    let head = args .head .depth in
+    whole-kept pre (clear .ensures) (judge-wanted .ensures) kept (cover-depth .ensures) head (depth .ensures)
+    (if2 .left) (omega (arith, c .if3 .left))
 
 pub judge-whole-spec : {M : Type 1} → statement M
 judge-whole-spec =
     tie.close
     (tie.spec
-    clear-numbers-requires
+    clear-requires
     judge-wanted-requires
     is-kept-requires
     same-length

@@ -18,6 +18,9 @@ shared-slice-read-if1 c = search needs
 mul-at : tie.Need-mul-at
 mul-at c = search needs
 
+add-at : tie.Need-add-at
+add-at c = search needs
+
 mul-depth : tie.Need-mul-depth
 mul-depth c = search needs
 
@@ -30,17 +33,20 @@ part-depth-start c = search needs
 part-depth-end : tie.Need-part-depth-end
 part-depth-end c = search needs
 
-shared-slice-read-depth : tie.Need-shared-slice-read-depth
-shared-slice-read-depth c = search needs
-
-cast-depth : tie.Need-cast-depth
-cast-depth c = search needs
+size-at-requires : tie.Need-size-at-requires
+size-at-requires c κs = search needs
 
 depth-requires : tie.Need-depth-requires
-depth-requires c κs = let a = c .before .before .before .before .before .before .before .before .before .before .args in depth-asked (now (a .roots)) (now (a .leaves)) (now (a .sizes)) (a .node .id) (now (a .depths)) (c .before .before .before .before .before .before .before .before .before .before .pre)
+depth-requires c κs =
+    let start = c .before .before .before .before .before .before .before .before .before in
+    let pre = start .pre in
+    depth-asked pre (c .size-at .ensures)
 
 add-depths : tie.Need-add-depths
-add-depths c = let a = c .before .before .before .before .before .before .before .before .before .before .before .before .args in omega (arith, depth-at (now (a .roots)) (now (a .leaves)) (now (a .sizes)) (a .node .id) (now (a .depths)) (c .before .before .before .before .before .before .before .before .before .before .before .before .pre) (c .before .depth .ensures), (c .before .before .before .before .before .before .before .before .before .before .before .before .pre) .small)
+add-depths c =
+    let start = c .before .before .before .before .before .before .before .before .before .before .before in
+    let p = start .pre in
+    omega (arith, depth-at p (c .before .before .size-at .ensures) (c .before .depth .ensures), p .small)
 
 mul-depths : tie.Need-mul-depths
 mul-depths c = search needs
@@ -53,8 +59,17 @@ same-length c = search needs
 
 returns : tie.Need-returns
 returns c =
-    let a = c .before .before .before .before .before .before .before .before .before .before .before .before .args in
-    record { root = λ _. ap (λ (d : ℕ). set (now (a .depths)) (a .node .id) (d + 1)) (depth-at (now (a .roots)) (now (a .leaves)) (now (a .sizes)) (a .node .id) (now (a .depths)) (c .before .before .before .before .before .before .before .before .before .before .before .before .pre) (c .before .depth .ensures)); other = λ out. absurd (out (c .before .before .before .before .before .if1 .taken)) }
+    let then1 = c .before .before .before .before .before in
+    let start = then1 .before .before .before .before .before .before in
+    let size-at = c .before .before .size-at in
+    let if1 = then1 .if1 in
+    let a = start .args in
+    let pre = start .pre in
+    let found = depth-at pre (size-at .ensures) (c .before .depth .ensures) in
+    record {
+      root = λ _. ap (λ (d : ℕ). set (now (a .depths)) (a .node .id) (d + 1)) found;
+      other = λ out. absurd (out (if1 .taken));
+    }
 
 returns-2 : tie.Need-returns-2
 returns-2 c = record { root = λ one. absurd (c .if1 .left one); other = λ _. refl }
@@ -66,12 +81,12 @@ set-depth-spec =
     cast-v
     shared-slice-read-if1
     mul-at
+    add-at
     mul-depth
     sub-depth
     part-depth-start
     part-depth-end
-    shared-slice-read-depth
-    cast-depth
+    size-at-requires
     depth-requires
     add-depths
     mul-depths

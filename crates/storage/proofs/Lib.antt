@@ -1,0 +1,10 @@
+pub mod Entries
+pub mod Stores
+pub mod Clears
+pub mod Rests
+pub mod InMarks
+pub mod Views
+pub mod InRoles
+pub mod InColumns
+pub mod InLists
+pub mod Drawings

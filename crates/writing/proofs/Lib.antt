@@ -1,5 +1,0 @@
-pub mod LutsWritten
-pub mod PathsWritten
-pub mod LinesWritten
-pub mod SheetsWritten
-pub mod OneSheet

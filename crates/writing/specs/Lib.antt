@@ -1,3 +1,0 @@
-pub mod Luts
-pub mod Lines
-pub mod Sheets
