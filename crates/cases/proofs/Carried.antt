@@ -30,7 +30,7 @@ use Rattle.keeping.specs.Mappers.{MappersSheet}
 use Rattle.keeping.proofs.Mappers.{lut-depth-is-label}
 use Rattle.keeping.specs.Printed.{mappingOf}
 use Rattle.keeping.proofs.One.{mappers-sheet-is-one, mapping-one}
-use Rattle.listing.specs.Text as text
+use Rattle.wording.specs.Text as text
 use Rattle.cases.specs.Cases.{Given, ByteCase, gateLine, tableFor, numbersFor, lastGate, claimAt, lutFor, sheetFor, SheetOf, SameSheet, MapsAs, loopNumber, Judged, Holds}
 use Rattle.cases.proofs.Tests.{both, isSameNumbers, same-numbers, isSameTable, same-table, isSound, sound-verdict, areRoots, roots-rise, isFair, fair, isDeep, deep, Deep}
 use Rattle.cases.proofs.Nets.{net-is, tables-are}

@@ -10,7 +10,7 @@ use Rattle.drawing.specs.Fields.{headVerdict, gateVerdict, outputVerdict}
 use Rattle.drawing.specs.Reading.{gatesFrom, outputsFrom, found}
 use Rattle.sheet.specs.Encoding as sheet
 use Rattle.sheet.specs.Rules.{lineOfNode}
-use Rattle.listing.specs.Text as text
+use Rattle.wording.specs.Text as text
 use Rattle.keeping.proofs.Listed.{member-map}
 use Rattle.cases.specs.Cases.{ByteCase, Holds}
 use Rattle.cases.specs.Bytes.{byteCases}

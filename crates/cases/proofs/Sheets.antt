@@ -22,9 +22,10 @@ use Rattle.theory.specs.Cases as theory
 use Rattle.covering.specs.Covers.{Needed}
 use Rattle.sheet.specs.Sheet as sheet
 use Rattle.sheet.specs.Rules.{lineOfNode, isListed, leavesListed, tableListed, PathsKept}
-use Rattle.keeping.specs.Right.{Roots}
+use Rattle.sheet.specs.Sheet.{Roots}
 use Rattle.keeping.specs.Mappers.{chosenBy, MappersSheet}
-use Rattle.keeping.proofs.Listed.{ListedLut, listed-lut, map-member}
+use Rattle.sheet.proofs.Listed.{ListedLut, listed-lut}
+use Rattle.keeping.proofs.Listed.{map-member}
 use Rattle.cases.specs.Cases.{claimAt, lineFor, lutFor, sheetFor}
 use Rattle.cases.proofs.Nets.{after-inputs}
 

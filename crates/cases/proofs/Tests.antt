@@ -17,8 +17,7 @@ use Rattle.theory.proofs.DecideCut.{isBehind, decides-behind}
 use Rattle.drawing.specs.declared.Verdict.{Verdict}
 use Rattle.drawing.specs.declared.Verdict.the-variants.{Sound, Refused}
 use Rattle.drawing.specs.Table.{GateLine, Table}
-use Rattle.sheet.specs.Sheet.{Lut}
-use Rattle.keeping.specs.Right.{Roots}
+use Rattle.sheet.specs.Sheet.{Lut, Roots}
 
 -- where a test and a second pass, both do
 pub both : {a b : Bool} → a && b ≡ true → (a ≡ true) × (b ≡ true)

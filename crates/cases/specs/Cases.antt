@@ -20,7 +20,7 @@ use Rattle.sheet.specs.Rules.{lineOfNode, labelsOf, isListed, lutsOf}
 use Rattle.keeping.specs.Mappers.{MappersSheet}
 use Rattle.keeping.specs.Same.{SameButEvidence}
 use Rattle.keeping.specs.Printed.{mappingOf}
-use Rattle.listing.specs.Text as text
+use Rattle.wording.specs.Text as text
 
 -- What is given of a drawing besides what the theory's case says: its bytes and how many they are, how many bytes the mapper's sheet has (0 where
 -- the table is refused), and what the lister prints.

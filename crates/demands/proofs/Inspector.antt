@@ -9,18 +9,19 @@ use Rattle.drawing.specs.Table.{tablesOf}
 use Rattle.drawing.specs.Reading.{found, tableOf, nodesOf}
 use Rattle.sheet.specs.declared.Fault.{Fault}
 use Rattle.sheet.specs.declared.Fault.the-variants as fault
+use Rattle.sheet.specs.Sheet.{Roots}
 use Rattle.sheet.specs.Shape as shape
 use Rattle.sheet.specs.Rules.{Rule, Found, ruleNumber, rulePlace}
-use Rattle.keeping.specs.Right.{Roots, Right}
+use Rattle.keeping.specs.Right.{Right}
 use Rattle.keeping.proofs.Kept.{kept-is-right}
 use Rattle.inspecting.specs.declared.Inspection.{Inspection}
 use Rattle.inspecting.specs.declared.Inspection.the-variants.{Refused, Shape}
 use Rattle.inspecting.specs.Inspecting.{Drawable, Inspects, KeepsAll, dueIn, sheetIn, replyOf, number, place}
+use Rattle.inspecting.proofs.Sound.{roots-rise}
 use Rattle.inspecting.proofs.Replies.{one-reply, keeps-accepted, accepted-exactly}
 use Rattle.demands.specs.Demands.{drawn, ReadsWhole, SomeLoop, IsTaken, InspectorReplies, Demand-1-inspector, Demand-3-right, Demand-3-accepts}
 use Rattle.keeping.proofs.Tables.{inputs-are, bounded, outputs-are-nodes, nodes-are, table-ranked}
 use Rattle.demands.proofs.Mapper.{sound-not-refused, refusal-number, loop-some, loop-lowest, whole-free, free-whole}
-use Rattle.demands.proofs.Roots.{sound-roots}
 
 -- A sheet that keeps the rules is right.
 
@@ -28,7 +29,7 @@ sheet-roots : (s t : List ℕ) → KeepsAll s t → Roots (drawn s .nodes) (draw
 sheet-roots s t kept = subst (λ (n : ℕ). Roots n (drawn s .inputs) (sheetIn s t .luts)) (sym (nodes-are s (kept .drawable .whole))) (read s t kept)
   where
     read : (s t : List ℕ) → KeepsAll s t → Roots (nodesOf s) (drawn s .inputs) (sheetIn s t .luts)
-    read s t kept = subst (λ (i : ℕ). Roots (nodesOf s) i (sheetIn s t .luts)) (inputs-are s) (sound-roots (dueIn s) t (kept .sound))
+    read s t kept = subst (λ (i : ℕ). Roots (nodesOf s) i (sheetIn s t .luts)) (inputs-are s) (roots-rise (dueIn s) t (kept .sound))
 
 kept-right : (s t : List ℕ) → KeepsAll s t → Right (drawn s) (tablesOf (tableOf s)) (headK s) (found s .outputs) (sheetIn s t)
 kept-right s t kept =

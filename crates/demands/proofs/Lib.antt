@@ -1,4 +1,3 @@
 pub mod Mapper
-pub mod Roots
 pub mod Inspector
 pub mod Longest

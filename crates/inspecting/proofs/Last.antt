@@ -71,7 +71,7 @@ module _ {k inputs nodes number : ℕ} {fanins rows outputs order labels roots c
 
     first-luts : {r : LutsJudged} → Third r → FirstBroken (Keeps net (tablesIn rows) k outs sheet) (flatMap lutRules (sheet .luts)) (foundLuts (sheet .luts) r)
     first-luts ruled =
-        luts-found net (tablesIn rows) k outs sheet (sheet .luts) (h .rise .rise) (tablesIn tables)
+        luts-found net (tablesIn rows) k outs sheet (sheet .luts) (h .rise) (tablesIn tables)
         (λ v at. h .luts .table v (listed-below (h .rise) v at)) (ruled-luts ruled)
 
     labels-same : greatest (map (λ v. getD labels v 0) outs) ≡ greatest (map (labelsOf (net .inputs) (sheet .lines)) outs)

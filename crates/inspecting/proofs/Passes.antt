@@ -1,6 +1,5 @@
 -- The replies of passes three and four, as the first rule that is broken; and what pass three leaves for pass four: leaves before their roots.
-use Prim.Native.Nat.{ℕ, zero, suc, _+_, _-_, _≤_, _<_}
-use native.Mathlib.Numerals.{add-one}
+use Prim.Native.Nat.{ℕ, _-_, _≤_, _<_}
 use native.Mathlib.Omega.{arith}
 use mathlib.Core.Path.{_≡_, refl, ap, sym, subst, _∙_}
 use mathlib.Core.Bool.{Bool, true, false}
@@ -14,8 +13,8 @@ use Rattle.theory.specs.Cover.{Luts, Depth, Depths}
 use Rattle.theory.specs.Lookup.{ConeTable}
 use Rattle.covering.specs.Covers.{Chosen, lutsIn}
 use Rattle.covering.proofs.Orders.{leaves-chosen}
-use Rattle.sheet.specs.Sheet.{Lut, Sheet, lutOf}
-use Rattle.sheet.specs.Rules.{Rule, Found, FirstBroken, Keeps, DepthKept, CoverKept, isListed, leavesListed, tableListed, lutsOf, lutRules, labelsOf, from, gates}
+use Rattle.sheet.specs.Sheet.{Lut, Sheet, Roots, lutOf}
+use Rattle.sheet.specs.Rules.{Rule, Found, FirstBroken, Keeps, DepthKept, CoverKept, isListed, leavesListed, tableListed, lutsOf, lutRules, labelsOf, gates}
 use Rattle.weighing.specs.declared.luts.LutsJudged.{LutsJudged}
 use Rattle.weighing.specs.declared.luts.LutsJudged.the-variants as luts-judged
 use Rattle.weighing.specs.declared.whole.WholeJudged.{WholeJudged}
@@ -23,10 +22,10 @@ use Rattle.weighing.specs.declared.whole.WholeJudged.the-variants as whole-judg
 use Rattle.weighing.specs.Laid.{LutsLaid}
 use Rattle.weighing.specs.PassThree.{LutKept, KeptBelow, LutsRuled}
 use Rattle.weighing.specs.PassFour.{WholeRuled}
-use Rattle.inspecting.specs.Holding.{Ascends, rootOf}
+use Rattle.sheet.proofs.Listed.{Listed, listed-lut, member-listed}
 use Rattle.sheet.proofs.Firsts.{first-none, first-before, first-after, from-member, member-from}
-use Rattle.inspecting.proofs.Firsts.{first-at}
-use Rattle.inspecting.proofs.Listed.{member-listed, listed-member, leaves-listed, table-listed, unlisted-leaves}
+use Rattle.inspecting.proofs.Firsts.{first-lut, first-gate}
+use Rattle.inspecting.proofs.Listed.{unlisted-leaves}
 
 -- Pass three
 
@@ -36,48 +35,51 @@ foundLuts luts luts-judged.Kept = Found.none
 foundLuts luts (luts-judged.Cut g) = Found.broken (Rule.cut (g .id) (leavesListed luts (g .id)))
 foundLuts luts (luts-judged.Function g) = Found.broken (Rule.function (lutOf (g .id) (leavesListed luts (g .id)) (tableListed luts (g .id))))
 
-module _ (net : Net) (tables : ℕ → ℕ) (k : ℕ) (outputs : List ℕ) (sheet : Sheet) (luts : List Lut) {least : ℕ} (rise : Ascends rootOf least luts) (table : ℕ → ℕ)
+module _ (net : Net) (tables : ℕ → ℕ) (k : ℕ) (outputs : List ℕ) (sheet : Sheet) (luts : List Lut) {nodes least : ℕ} (rise : Roots nodes least luts) (table : ℕ → ℕ)
     (same : (v : ℕ) → isListed luts v ≡ true → table v ≡ tableListed luts v) where
+  standing : {lut : Lut} → List·Memᴰ lut luts → Listed luts lut
+  standing {lut} m = member-listed rise lut m
+
   table-is : {lut : Lut} → List·Memᴰ lut luts → table (lut .root) ≡ lut .table
-  table-is {lut} m = same (lut .root) (member-listed m) ∙ table-listed rise m
+  table-is {lut} m = same (lut .root) (standing m .listed) ∙ standing m .table-is
 
   kept-rules : {lut : Lut} → List·Memᴰ lut luts → LutKept net tables k (lutsOf luts) table (lut .root) →
       FirstBroken (Keeps net tables k outputs sheet) (lutRules lut) Found.none
   unfolding Keeps
   kept-rules {lut} m kept =
-      FirstBroken.later (rw (leaves-listed rise m) at (kept .cut)) (FirstBroken.later (rw (leaves-listed rise m, table-is m) at (kept .function)) FirstBroken.kept)
+      FirstBroken.later (rw (standing m .leaves-are) at (kept .cut)) (FirstBroken.later (rw (standing m .leaves-are, table-is m) at (kept .function)) FirstBroken.kept)
 
   kept-before : {r : ℕ} → KeptBelow net tables k (lutsOf luts) table r → (y : Lut) → List·Memᴰ y luts → y .root < r →
       FirstBroken (Keeps net tables k outputs sheet) (lutRules y) Found.none
-  kept-before below y m less = kept-rules m (below (y .root) less (member-listed m))
+  kept-before below y m less = kept-rules m (below (y .root) less (standing m .listed))
 
   cut-at : {lut : Lut} → List·Memᴰ lut luts → KeptBelow net tables k (lutsOf luts) table (lut .root) → (Cut net k (lut .root) (leavesListed luts (lut .root)) → ⊥) →
       FirstBroken (Keeps net tables k outputs sheet) (flatMap lutRules luts) (foundLuts luts (luts-judged.Cut (record { id = lut .root })))
   unfolding Keeps
   cut-at {lut} m below none =
-      let l = leaves-listed rise m in
-      rw l (first-at rise m (kept-before below) (FirstBroken.here (λ cut. none (rw l cut))))
+      let l = standing m .leaves-are in
+      rw l (first-lut rise m (kept-before below) (FirstBroken.here (λ cut. none (rw l cut))))
 
   function-at : {lut : Lut} → List·Memᴰ lut luts → KeptBelow net tables k (lutsOf luts) table (lut .root) → Cut net k (lut .root) (leavesListed luts (lut .root)) →
       (ConeTable net tables (leavesListed luts (lut .root)) (lut .root) (table (lut .root)) → ⊥) →
       FirstBroken (Keeps net tables k outputs sheet) (flatMap lutRules luts) (foundLuts luts (luts-judged.Function (record { id = lut .root })))
   unfolding Keeps
   function-at {lut} m below cut none =
-      let l = leaves-listed rise m in
-      rw (l, table-listed rise m)
-      (first-at rise m (kept-before below) (FirstBroken.later (rw l at cut) (FirstBroken.here (λ right. none (rw (l, table-is m) right)))))
+      let l = standing m .leaves-are in
+      rw (l, standing m .table-is)
+      (first-lut rise m (kept-before below) (FirstBroken.later (rw l at cut) (FirstBroken.here (λ right. none (rw (l, table-is m) right)))))
 
   pub luts-found : {r : LutsJudged} → LutsRuled net tables k (lutsOf luts) table r →
       FirstBroken (Keeps net tables k outputs sheet) (flatMap lutRules luts) (foundLuts luts r)
-  luts-found (LutsRuled.kept each) = first-none luts (λ lut m. kept-rules m (each (lut .root) (member-listed m)))
+  luts-found (LutsRuled.kept each) = first-none luts (λ lut m. kept-rules m (each (lut .root) (standing m .listed)))
   luts-found (LutsRuled.cut {r = r} at below none) =
-      let found = listed-member luts r at in
-      subst (λ (w : ℕ). FirstBroken (Keeps net tables k outputs sheet) (flatMap lutRules luts) (foundLuts luts (luts-judged.Cut (record { id = w })))) (found .root)
-      (cut-at (found .member) (rw (found .root) below) (rw (found .root) none))
+      let found = listed-lut luts r at in
+      subst (λ (w : ℕ). FirstBroken (Keeps net tables k outputs sheet) (flatMap lutRules luts) (foundLuts luts (luts-judged.Cut (record { id = w })))) (found .root-is)
+      (cut-at (found .member) (rw (found .root-is) below) (rw (found .root-is) none))
   luts-found (LutsRuled.function {r = r} at below cut none) =
-      let found = listed-member luts r at in
-      subst (λ (w : ℕ). FirstBroken (Keeps net tables k outputs sheet) (flatMap lutRules luts) (foundLuts luts (luts-judged.Function (record { id = w })))) (found .root)
-      (function-at (found .member) (rw (found .root) below) (rw (found .root) cut) (rw (found .root) none))
+      let found = listed-lut luts r at in
+      subst (λ (w : ℕ). FirstBroken (Keeps net tables k outputs sheet) (flatMap lutRules luts) (foundLuts luts (luts-judged.Function (record { id = w })))) (found .root-is)
+      (function-at (found .member) (rw (found .root-is) below) (rw (found .root-is) cut) (rw (found .root-is) none))
 
 -- Pass four
 
@@ -85,14 +87,6 @@ abbrev pub foundWhole : WholeJudged → Found
 foundWhole whole-judged.Kept = Found.none
 foundWhole (whole-judged.Cover g) = Found.broken (Rule.cover (g .id))
 foundWhole whole-judged.Depth = Found.broken Rule.depth
-
--- the numbers from v on
-from-ascends : (v count : ℕ) → Ascends (λ (u : ℕ). u) v (from v count)
-unfolding from
-from-ascends v zero = Ascends.none
-from-ascends v (suc count) =
-    let rest : Ascends (λ (u : ℕ). u) (v + 1) (from (suc v) count) = rw (add-one v) (from-ascends (suc v) count) in
-    Ascends.more {least = v} {x = v} (omega arith) rest
 
 covers-flat : (gs : List ℕ) → map Rule.cover gs ≡ flatMap (λ g. Rule.cover g ∷ []) gs
 unfolding flatMap
@@ -140,7 +134,7 @@ module _ (net cuts : Net) (tables : ℕ → ℕ) (k : ℕ) (outputs : List ℕ) 
   whole-found (WholeRuled.cover {g = g} gate below none) =
       first-before {rs = map Rule.cover (gates net)} (Rule.depth ∷ [])
       (rw (covers-flat (gates net))
-      (first-at (from-ascends (net .inputs) (net .nodes - net .inputs)) (gate-member gate)
+      (first-gate (net .inputs) (net .nodes - net .inputs) (gate-member gate)
       (λ h m less. FirstBroken.later (below h (member-gate m) less) FirstBroken.kept)
       (FirstBroken.here none)))
   whole-found (WholeRuled.depth-broken each none) =

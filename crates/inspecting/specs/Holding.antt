@@ -1,5 +1,5 @@
 -- A sheet of sound shape in arrays, and what passes two to four say of it.
-use Prim.Native.Nat.{ℕ, _+_, _≤_, _<_}
+use Prim.Native.Nat.{ℕ, _≤_, _<_}
 use mathlib.Core.Path.{_≡_}
 use mathlib.Core.List.{List, [], _∷_, _++_, map, flatMap, List·Memᴰ}
 use lib.ListN.{length, getD, take}
@@ -10,7 +10,7 @@ use Rattle.drawing.specs.Limits.{mostNodes}
 use Rattle.sheet.specs.declared.Fault.{Fault}
 use Rattle.sheet.specs.declared.Ruling.the-variants as ruling
 use Rattle.sheet.specs.Limits.{mostDepth}
-use Rattle.sheet.specs.Sheet.{Lut, Sheet}
+use Rattle.sheet.specs.Sheet.{Sheet, Roots}
 use Rattle.sheet.specs.Encoding.{narrow}
 use Rattle.sheet.specs.Shape.{reading}
 use Rattle.sheet.specs.Rules.{Rule, Found, FirstBroken, Keeps, labelsOf, lutRules, gates, rulesOf}
@@ -24,19 +24,6 @@ use Rattle.inspecting.specs.Inspecting.{replyOf, dueFor}
 abbrev pub termsFor : Numbers → Terms
 termsFor n = record { form = narrow; most = mostDepth; numbers = n }
 
--- Things that rise: each has a number, at least `least` and above the one before.
-pub data Ascends {A : Type 0} (rank : A → ℕ) : ℕ → List A → Type 0 where
-  none : {least : ℕ} → Ascends rank least []
-  more : {least : ℕ} {x : A} {xs : List A} → least ≤ rank x → Ascends rank (rank x + 1) xs → Ascends rank least (x ∷ xs)
-
-abbrev pub rootOf : Lut → ℕ
-rootOf lut = lut .root
-
--- "for each LUT, roots rising": the roots are gates, and rise.
-pub record RootsRise (inputs nodes : ℕ) (luts : List Lut) : Type 0 where
-  pub rise : Ascends rootOf inputs luts
-  pub nodes-at : (lut : Lut) → List·Memᴰ lut luts → lut .root < nodes
-
 -- A table taken: a drawing with its order, its tables and its outputs in arrays.
 pub record TableLaid (k inputs nodes number : ℕ) (fanins rows outputs order : List ℕ) : Type 0 where
   pub drawing : Arranged inputs nodes k fanins order
@@ -49,7 +36,7 @@ pub record TableLaid (k inputs nodes number : ℕ) (fanins rows outputs order : 
 pub record SheetHeld (inputs nodes : ℕ) (labels roots cuts tables : List ℕ) (head : ℕ) (sheet : Sheet) : Type 0 where
   pub label : (v : ℕ) → v < nodes → getD labels v 0 ≡ labelsOf inputs (sheet .lines) v
   pub luts : HoldsLuts nodes (sheet .luts) roots cuts tables
-  pub rise : RootsRise inputs nodes (sheet .luts)
+  pub rise : Roots nodes inputs (sheet .luts)
   pub depth : head ≡ sheet .depth
 
 -- "pass three 25, 29 on each LUT; pass four 28, then 30"

@@ -17,11 +17,12 @@ use Rattle.theory.proofs.MappersCovers.{no-cover-shallower}
 use Rattle.theory.specs.Lookup.{TablesFit}
 use Rattle.theory.proofs.Computes.{lutValue, lutValue-obeys, lutValue-inputs, luts-compute-outputs}
 use Rattle.theory.proofs.Valuations.{valueOf, valueOf-obeys}
-use Rattle.sheet.specs.Sheet.{Lut, Sheet}
+use Rattle.sheet.specs.Sheet.{Lut, Sheet, Roots}
 use Rattle.sheet.specs.Rules.{Rule, Keeps, LabelKept, PathsKept, CoverKept, DepthKept, gateRules, lutRules, gates, rulesOf, lineOfNode, labelsOf, lutsOf, leavesListed, tableListed}
 use Rattle.sheet.proofs.Firsts.{member-from}
-use Rattle.keeping.specs.Right.{Roots, KeepsAll, Computes, Right}
-use Rattle.keeping.proofs.Listed.{label-at-input, member-flat, member-map, ListedLut, listed-lut, root-gate}
+use Rattle.keeping.specs.Right.{KeepsAll, Computes, Right}
+use Rattle.sheet.proofs.Listed.{ListedLut, listed-lut, root-gate}
+use Rattle.keeping.proofs.Listed.{label-at-input, member-flat, member-map}
 
 -- The rules that are tried, by where they stand in the list
 

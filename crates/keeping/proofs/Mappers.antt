@@ -23,7 +23,8 @@ use Rattle.sheet.specs.Rules.{Rule, Keeps, LabelKept, PathsKept, CoverKept, Dep
 use Rattle.sheet.proofs.Firsts.{from-member}
 use Rattle.keeping.specs.Right.{KeepsAll}
 use Rattle.keeping.specs.Mappers.{chosenBy, SheetWith}
-use Rattle.keeping.proofs.Listed.{label-at-input, ListedLut, listed-lut, root-gate, member-stands, flat-member, map-member}
+use Rattle.sheet.proofs.Listed.{ListedLut, listed-lut, root-gate, member-listed}
+use Rattle.keeping.proofs.Listed.{label-at-input, flat-member, map-member}
 
 module _ {Asked : (ℕ → ℕ) → ℕ → List (List ℕ) → Type 0} (net : Net) (tables : ℕ → ℕ) (k : ℕ) (outputs : List ℕ) (sheet : Sheet) (bounded : Bounded net k)
     (ranked : Ranked net) (nodes : (v : ℕ) → List·Memᴰ v outputs → v < net .nodes) (mapper : SheetWith Asked net tables k outputs sheet) where
@@ -115,12 +116,12 @@ module _ {Asked : (ℕ → ℕ) → ℕ → List (List ℕ) → Type 0} (net : N
   pub lut-cut : (lut : Lut) → List·Memᴰ lut (sheet .luts) → Cut net k (lut .root) (lut .leaves)
   unfolding luts
   lut-cut lut m =
-      let stands = member-stands (mapper .roots) lut m in
+      let stands = member-listed (mapper .roots) lut m in
       subst (Cut net k (lut .root)) (stands .leaves-are) (root-cut (stands .listed))
 
   pub lut-function : (lut : Lut) → List·Memᴰ lut (sheet .luts) → ConeTable net tables (lut .leaves) (lut .root) (lut .table)
   lut-function lut m =
-      let stands = member-stands (mapper .roots) lut m in
+      let stands = member-listed (mapper .roots) lut m in
       subst (ConeTable net tables (lut .leaves) (lut .root)) (stands .table-is)
       (subst (λ (l : List ℕ). ConeTable net tables l (lut .root) (tableListed (sheet .luts) (lut .root))) (stands .leaves-are)
       (mapper .functions (lut .root) (stands .listed)))

@@ -21,14 +21,13 @@ use Rattle.theory.proofs.MappersCuts.{mappers-cut-is-one}
 use Rattle.theory.proofs.MappersCovers.{same-test}
 use Rattle.theory.proofs.Cones.{cone-table-only}
 use Rattle.covering.specs.Covers.{Needed}
-use Rattle.sheet.specs.Sheet.{Line, Lut, Sheet, noLine}
+use Rattle.sheet.specs.Sheet.{Line, Lut, Sheet, Roots, noLine}
 use Rattle.sheet.specs.Rules.{lineOfNode, labelsOf, isListed, leavesListed, tableListed}
 use Rattle.drawing.specs.Table.{Table}
-use Rattle.keeping.specs.Right.{Roots}
 use Rattle.keeping.specs.Mappers.{chosenBy, SheetWith}
 use Rattle.keeping.specs.Same.{SameButEvidence}
 use Rattle.keeping.specs.Printed.{listedLut, listedOutput, mappingOf}
-use Rattle.keeping.proofs.Listed.{ListedLut, listed-lut, root-gate, Stands, member-stands}
+use Rattle.sheet.proofs.Listed.{ListedLut, listed-lut, root-gate, Listed, member-listed}
 use Rattle.keeping.proofs.Mappers.{mappers-cover}
 
 -- Lists of LUTs
@@ -56,11 +55,11 @@ first-below {a = a} {l = l} (Roots.more low high rest) lut m = ⊎-elim (λ (e :
 
 -- the first roots are the same, so the LUTs are
 module _ {nodes least : ℕ} {a b : Lut} {l m : List Lut} (roots : Roots nodes least (a ∷ l)) (others : Roots nodes least (b ∷ m)) (same : SameListed (a ∷ l) (b ∷ m)) where
-  head-stands : Stands (a ∷ l) a
-  head-stands = member-stands roots a (List·Memᴰ·head refl)
+  head-stands : Listed (a ∷ l) a
+  head-stands = member-listed roots a (List·Memᴰ·head refl)
 
-  other-stands : Stands (b ∷ m) b
-  other-stands = member-stands others b (List·Memᴰ·head refl)
+  other-stands : Listed (b ∷ m) b
+  other-stands = member-listed others b (List·Memᴰ·head refl)
 
   heads-root : a .root ≡ b .root
   heads-root =
@@ -115,8 +114,8 @@ roots-later (Roots.more low high rest) = rest
 pub luts-one : {nodes least : ℕ} (l m : List Lut) → Roots nodes least l → Roots nodes least m → SameListed l m → l ≡ m
 unfolding isListed
 luts-one [] [] roots others same = refl
-luts-one [] (b ∷ m) roots others same = absurd (false≢true (same .roots-same (b .root) ∙ member-stands others b (List·Memᴰ·head refl) .listed))
-luts-one (a ∷ l) [] roots others same = absurd (false≢true (sym (same .roots-same (a .root)) ∙ member-stands roots a (List·Memᴰ·head refl) .listed))
+luts-one [] (b ∷ m) roots others same = absurd (false≢true (same .roots-same (b .root) ∙ member-listed others b (List·Memᴰ·head refl) .listed))
+luts-one (a ∷ l) [] roots others same = absurd (false≢true (sym (same .roots-same (a .root)) ∙ member-listed roots a (List·Memᴰ·head refl) .listed))
 luts-one {nodes} {least} (a ∷ l) (b ∷ m) roots others same =
     let e : b ≡ a = sym (heads-same roots others same) in
     let others′ : Roots nodes least (a ∷ m) = subst (λ (x : Lut). Roots nodes least (x ∷ m)) e others in

@@ -17,14 +17,13 @@ use Rattle.theory.proofs.Members.{greatest-at-most, some-member}
 use Rattle.theory.proofs.Walks.{input-or-gate}
 use Rattle.theory.proofs.FlowMap.{Labels, label-peaked, label-positive, labels-at-inputs}
 use Rattle.sheet.specs.declared.Form.{Form}
-use Rattle.sheet.specs.Sheet.{Line, Lut, Sheet, noLut}
+use Rattle.sheet.specs.Sheet.{Line, Lut, Sheet, Roots, noLut}
 use Rattle.sheet.specs.Rules.{labelsOf}
 use Rattle.sheet.specs.Longest.{Drawing, Kept}
 use Rattle.sheet.specs.Shape.{Shaped}
 use Rattle.sheet.proofs.Shapes.{dueFor, Fitting, Numbered, sheet-shaped}
-use Rattle.keeping.specs.Right.{Roots}
 use Rattle.keeping.specs.Mappers.{MappersSheet}
-use Rattle.keeping.proofs.Listed.{root-gate}
+use Rattle.sheet.proofs.Listed.{root-gate}
 use Rattle.keeping.proofs.Longest.{lut-member, rules-bound}
 use Rattle.keeping.proofs.Mappers.{mappers-labels, lut-cut, lut-function, mappers-sheet-keeps}
 pub use Rattle.keeping.proofs.Listed.{line-at}

@@ -10,9 +10,8 @@ use Rattle.theory.specs.Cover.{Label}
 use Rattle.theory.specs.Evidence.{MappersCut}
 use Rattle.theory.specs.Lookup.{ConeTable}
 use Rattle.covering.specs.Covers.{Needed}
-use Rattle.sheet.specs.Sheet.{Line, Sheet}
+use Rattle.sheet.specs.Sheet.{Line, Sheet, Roots}
 use Rattle.sheet.specs.Rules.{lineOfNode, labelsOf, isListed, leavesListed, tableListed, PathsKept}
-use Rattle.keeping.specs.Right.{Roots}
 
 -- the cuts of the lines as a net of their own, with leaves for fanins
 abbrev pub chosenBy : Net → List Line → Net

@@ -5,7 +5,7 @@ use lib.ListN.{length}
 use Rattle.drawing.specs.Table.{Table}
 use Rattle.sheet.specs.Sheet as sheet
 use Rattle.sheet.specs.Rules.{labelsOf}
-use Rattle.listing.specs.Text as text
+use Rattle.wording.specs.Text as text
 
 -- "depths are LUT depths": a root's is its label, and so is an output's
 abbrev pub listedLut : (ℕ → ℕ) → sheet.Lut → text.Lut

@@ -1,20 +1,14 @@
 -- What is right of a sheet, in the words of the theory alone.
-use Prim.Native.Nat.{ℕ, suc, _≤_, _<_}
+use Prim.Native.Nat.{ℕ, _≤_, _<_}
 use mathlib.Core.Path.{_≡_}
 use mathlib.Core.Bool.{Bool}
-use mathlib.Core.List.{List, [], _∷_, List·Memᴰ}
+use mathlib.Core.List.{List, List·Memᴰ}
 use Rattle.theory.specs.Net.{Net, Input}
 use Rattle.theory.specs.Values.{Values}
 use Rattle.theory.specs.Cover.{Luts, Cover, Depths, Label}
 use Rattle.theory.specs.Lookup.{ObeysLuts}
-use Rattle.sheet.specs.Sheet.{Lut, Sheet}
+use Rattle.sheet.specs.Sheet.{Sheet}
 use Rattle.sheet.specs.Rules.{Rule, Keeps, rulesOf, labelsOf, lutsOf, tableListed}
-
--- The roots are gates, and rise: what rule 24 leaves of the list of LUTs. No root is below `least`.
-pub data Roots (nodes : ℕ) : (least : ℕ) → List Lut → Type 0 where
-  none : {least : ℕ} → Roots nodes least []
-  more : {least : ℕ} {lut : Lut} {luts : List Lut} → least ≤ lut .root → lut .root < nodes → Roots nodes (suc (lut .root)) luts →
-      Roots nodes least (lut ∷ luts)
 
 -- every rule is kept
 abbrev pub KeepsAll : (net : Net) (tables : ℕ → ℕ) (k : ℕ) (outputs : List ℕ) (sheet : Sheet) → Type 0

@@ -32,9 +32,8 @@ use Rattle.flow.proofs.Listing.{those-count}
 use Rattle.labelling.proofs.Agreeing.{Agree, agree-back, mappers-cut-agrees}
 use Rattle.covering.specs.Covers.{Needed, CoverMade, isRoot, lutCount}
 use Rattle.covering.proofs.Orders.{needed-gate}
-use Rattle.sheet.specs.Sheet.{Line, noLine}
+use Rattle.sheet.specs.Sheet.{Line, Roots, noLine}
 use Rattle.sheet.specs.Rules.{lineOfNode, labelsOf, isListed, leavesListed, tableListed, PathsKept}
-use Rattle.keeping.specs.Right.{Roots}
 use Rattle.keeping.specs.Mappers.{SheetWith, MappersSheet}
 use Rattle.packing.specs.Tables.{TableIs, Labelled}
 use Rattle.mapping.specs.Luts.{isMarked, lutIn, lutsBelow}

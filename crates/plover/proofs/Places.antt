@@ -28,6 +28,7 @@ use Rattle.sheet.specs.Shape.{reading}
 use Rattle.sheet.specs.Rules.{Rule, Found, FirstBroken, rulePlace, gateRules, lutRules, gates, rulesOf}
 use Rattle.sheet.proofs.Longest.{no-longer-than}
 use Rattle.sheet.proofs.Firsts.{from-member}
+use Rattle.sheet.proofs.Listed.{root-gate}
 use Rattle.keeping.proofs.Listed.{flat-member, map-member}
 use Rattle.keeping.proofs.Shaped.{mappers-kept}
 use Rattle.keeping.proofs.Tables.{bounded, outputs-are-nodes, nodes-few, nodes-are, k-few, drawing, table-ranked}
@@ -131,7 +132,7 @@ module _ (s t : List ℕ) (bytes : (i : ℕ) → getD t i 0 < 256) where
   broken-low d sound {Kept} x first r e =
       let net = netOf (tableOf s) in
       let roots : (lut : Lut) → List·Memᴰ lut (sheetIn s t .luts) → lut .root < net .nodes =
-      λ lut m. omega (arith, roots-rise (dueIn s) t sound .nodes-at lut m, nodes-are s (d .whole)) in
+      λ lut m. omega (arith, root-gate (roots-rise (dueIn s) t sound) lut m .1, nodes-are s (d .whole)) in
       let member : List·Memᴰ r (rulesOf net (sheetIn s t)) = broken-member (subst (FirstBroken Kept (rulesOf net (sheetIn s t))) e first) in
       omega (arith, rules-low net (sheetIn s t) (bounded s (d .whole) .span) roots r member, nodes-few s (d .whole))
 

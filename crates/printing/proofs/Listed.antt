@@ -19,9 +19,9 @@ use Rattle.flow.specs.Numbers.{those}
 use Rattle.flow.proofs.Sums.{those-hold}
 use Rattle.sheet.specs.Sheet.{Line, Sheet, lineOf, noLine}
 use Rattle.sheet.specs.Rules.{from, labelsOf}
-use Rattle.listing.specs.Text.{Lut, Mapping as Printed, listingOf}
-use Rattle.listing.specs.Puts.{Wrote}
-use Rattle.listing.specs.Arrays.{Arrays, arraysOf, lutAt, outputAt, marked, markedFrom, lutsIn, outputsIn, mappingIn, Held, room}
+use Rattle.wording.specs.Text.{Lut, Mapping as Printed, listingOf}
+use Rattle.wording.specs.Puts.{Wrote}
+use Rattle.wording.specs.Arrays.{Arrays, arraysOf, lutAt, outputAt, marked, markedFrom, lutsIn, outputsIn, mappingIn, Held, room}
 use Rattle.keeping.specs.Mappers.{SettledSheet}
 use Rattle.keeping.specs.Printed.{listedLut, listedOutput, mappingOf}
 use Rattle.packing.specs.declared.Mapping.{Mapping}

@@ -14,8 +14,8 @@ use Rattle.taking.specs.declared.Taking.the-variants as taking
 use Rattle.taking.specs.Judged.{Says}
 use Rattle.taking.proofs.Judged.{says-one, free-of}
 use Rattle.sheet.specs.Sheet.{Sheet}
-use Rattle.listing.specs.Text.{listingOf, refusedLine}
-use Rattle.listing.specs.Puts.{Wrote}
+use Rattle.wording.specs.Text.{listingOf, refusedLine}
+use Rattle.wording.specs.Puts.{Wrote}
 use Rattle.keeping.specs.Mappers.{SheetWith}
 use Rattle.keeping.specs.Printed.{mappingOf}
 use Rattle.keeping.proofs.One.{mappers-sheet-is-one, mapping-one}

@@ -3,12 +3,12 @@ use Prim.Native.Nat.{ℕ, _≤_}
 use mathlib.Core.Path.{_≡_, refl, sym, subst}
 use mathlib.Core.List.{List}
 use lib.ListN.{length}
-use Rattle.listing.specs.Text.{refusedLine}
-use Rattle.listing.specs.Puts.{Wrote}
+use Rattle.wording.specs.Text.{refusedLine}
+use Rattle.wording.specs.Puts.{Wrote}
 use Rattle.inspecting.specs.declared.Inspection.{Inspection}
 use Rattle.inspecting.specs.Inspecting.{Inspects}
 use Rattle.printing.specs.Filled.{Filled}
-use Rattle.listing.specs.Arrays.{lineRoom}
+use Rattle.wording.specs.Arrays.{lineRoom}
 use Rattle.printing.specs.Reports.{lineOf, Reports}
 
 pub refused-as : {number place a b : ℕ} {before : List ℕ} {r : ℕ} {after : List ℕ} → a ≡ number → b ≡ place → Wrote before (refusedLine a b) r after →

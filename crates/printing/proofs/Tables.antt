@@ -14,8 +14,8 @@ use Rattle.drawing.proofs.SoundTables.{table-sound}
 use Rattle.taking.specs.declared.Taking.{Taking}
 use Rattle.taking.specs.declared.Taking.the-variants as taking
 use Rattle.taking.specs.Judged.{Says, Ready}
-use Rattle.listing.specs.Text.{listingOf, refusedLine}
-use Rattle.listing.specs.Puts.{Wrote}
+use Rattle.wording.specs.Text.{listingOf, refusedLine}
+use Rattle.wording.specs.Puts.{Wrote}
 use Rattle.keeping.specs.Printed.{mappingOf}
 use Rattle.mapping.proofs.Mapped.{taken-asked, sheet-of-table}
 use Rattle.printing.specs.Filled.{Filled}

@@ -3,7 +3,7 @@ use Prim.Native.Nat.{ℕ, _≤_, _<_}
 use mathlib.Core.Path.{_≡_}
 use mathlib.Core.List.{List}
 use lib.ListN.{length, take}
-use Rattle.listing.specs.Puts.{Wrote}
+use Rattle.wording.specs.Puts.{Wrote}
 
 -- A buffer shorter than the longest text is left as it was, and the answer is 0. Else a text of this kind stands at its front, the rest of it is as
 -- before, and the answer is the text's length.

@@ -15,9 +15,9 @@ use Rattle.drawing.specs.Reading.{tableOf, rootsOf}
 use Rattle.taking.specs.declared.Taking.the-variants as taking
 use Rattle.taking.specs.Judged.{Says}
 use Rattle.sheet.specs.Sheet.{Sheet}
-use Rattle.listing.specs.Text.{listingOf, refusedLine}
-use Rattle.listing.specs.Puts.{Wrote}
-use Rattle.listing.specs.Arrays.{room}
+use Rattle.wording.specs.Text.{listingOf, refusedLine}
+use Rattle.wording.specs.Puts.{Wrote}
+use Rattle.wording.specs.Arrays.{room}
 use Rattle.keeping.specs.Mappers.{SettledSheet}
 use Rattle.keeping.specs.Printed.{mappingOf}
 use Rattle.mapping.specs.Sheets.{TakenAsked}

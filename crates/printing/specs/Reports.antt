@@ -2,8 +2,8 @@
 use Prim.Native.Nat.{ℕ}
 use mathlib.Core.Path.{_≡_}
 use mathlib.Core.List.{List}
-use Rattle.listing.specs.Arrays.{lineRoom}
-use Rattle.listing.specs.Text.{refusedLine, acceptedLine}
+use Rattle.wording.specs.Arrays.{lineRoom}
+use Rattle.wording.specs.Text.{refusedLine, acceptedLine}
 use Rattle.inspecting.specs.declared.Inspection.{Inspection}
 use Rattle.inspecting.specs.declared.Inspection.the-variants.{Accepted, Refused, LoopAt, Shape, Cut, Label, Paths, Cover, Function, Depth}
 use Rattle.inspecting.specs.Inspecting.{number, place, Inspects}

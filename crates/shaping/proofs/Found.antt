@@ -4,7 +4,7 @@ use native.Mathlib.Omega.{arith}
 use mathlib.Core.Path.{_≡_, refl, ap, sym, _∙_}
 use mathlib.Core.Bool.{Bool, true, false, _||_, cond}
 use mathlib.Core.List.{List, _∷_}
-use borrow.Author.Tests.{lt-ltb, le-ltb, eq-eqb, ne-eqb, ltb-false}
+use borrow.Author.Tests.{lt-ltb, le-ltb, eq-eqb, ne-eqb, ltb-false, leb-false}
 use lib.ListN.{length, getD}
 use lib.Dec.{ltb, leb}
 use Rattle.drawing.specs.Bytes.{numberAt, valueAt}
@@ -180,12 +180,22 @@ module _ (due : Due) (s : List ℕ) where
         ap (λ (l : Fields Lut). l .read) (luts-step due s left least at some)
         ∙ all-read (lutRuling due s least at) (lutAt due s at) at behind as-step
 
+    abbrev root : ℕ
+    root = lutAt due s at .root
+
+    root-ranged : (ltb root least ≡ false) × (leb (due .nodes) root ≡ false)
+    root-ranged =
+        let leaves = leavesRange due (lutAt due s at .leaves) in
+        let both = or-none (ltb root least) (leb (due .nodes) root || leaves) (lut-kept due s least at lut-ruled .ranged) in
+        (both .0, or-none (leb (due .nodes) root) leaves (both .1) .0)
+
     -- "not above the root before"
     pub root-least : least ≤ lutAt due s at .root
-    root-least =
-        let root = lutAt due s at .root in
-        let rest = leb (due .nodes) root || leavesRange due (lutAt due s at .leaves) in
-        ltb-false root least (or-none (ltb root least) rest (lut-kept due s least at lut-ruled .ranged) .0)
+    root-least = ltb-false root least (root-ranged .0)
+
+    -- "id of n or more"
+    pub root-node : lutAt due s at .root < due .nodes
+    root-node = leb-false (due .nodes) root (root-ranged .1)
 
 -- what is listed, one LUT at a time
 listed-here : (lut : Lut) (luts : List Lut) (u : ℕ) → lut .root ≡ u → listedAt (lut ∷ luts) u ≡ lutListed lut

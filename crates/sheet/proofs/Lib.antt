@@ -8,3 +8,4 @@ pub mod Standing
 pub mod RoundTrip
 pub mod Shapes
 pub mod Firsts
+pub mod Listed

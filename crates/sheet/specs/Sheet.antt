@@ -1,6 +1,6 @@
 -- A mapping sheet as a value.
-use Prim.Native.Nat.{ℕ}
-use mathlib.Core.List.{List, []}
+use Prim.Native.Nat.{ℕ, suc, _≤_, _<_}
+use mathlib.Core.List.{List, [], _∷_}
 
 -- What the sheet says of a gate: its label, the leaves of its cut, and the evidence, one list of ids for each path.
 pub record Line : Type 0 where
@@ -31,3 +31,9 @@ pub record Sheet : Type 0 where
   pub depth : ℕ
   pub lines : List Line
   pub luts : List Lut
+
+-- "for each LUT, roots rising": the roots are gates, and rise, as rule 24 asks. No root is below `least`, which is I for a whole list.
+pub data Roots (nodes : ℕ) : (least : ℕ) → List Lut → Type 0 where
+  none : {least : ℕ} → Roots nodes least []
+  more : {least : ℕ} {lut : Lut} {luts : List Lut} → least ≤ lut .root → lut .root < nodes → Roots nodes (suc (lut .root)) luts →
+      Roots nodes least (lut ∷ luts)
