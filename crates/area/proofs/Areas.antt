@@ -4,10 +4,10 @@ use native.Mathlib.Nat.{not-suc-le-zero}
 use native.Mathlib.Omega.{arith}
 use mathlib.Core.Logic.{_⊎_, inl, inr}
 use mathlib.Core.List.{[]}
-use Rattle.theory.specs.Net.{Net, Gate, Input}
-use Rattle.theory.specs.Sound.{Bounded, Ranked}
-use Rattle.theory.specs.Walk.{Walked, Behind}
-use Rattle.theory.specs.Evidence.{InD}
+use Rattle.theory.specs.paper.Net.{Net, Gate, Input}
+use Rattle.theory.specs.paper.Sound.{Bounded, Ranked}
+use Rattle.theory.specs.paper.Walk.{Walked, Behind}
+use Rattle.theory.specs.paper.Evidence.{InD}
 use Rattle.theory.proofs.Members.{some-member}
 use Rattle.theory.proofs.Walks.{behind-walked, met-node, input-or-gate, gate-no-input}
 use Rattle.area.specs.Area.{InArea}

@@ -1,4 +1,4 @@
-pub mod Parts
+pub mod Peaks
 pub mod Marking
 pub mod Splits
 pub mod Ends

@@ -7,7 +7,7 @@ use mathlib.Core.Logic.{_⊎_, inl, inr}
 use mathlib.Core.List.{List}
 use lib.ListN.{getD}
 use lib.Seq.{ext-getD}
-use Rattle.theory.specs.Net.{Net}
+use Rattle.theory.specs.paper.Net.{Net}
 use Rattle.storage.specs.Roles.{deepBit, areaBit, endBit}
 use Rattle.storage.proofs.Clears.{beyond-entry}
 use Rattle.storage.proofs.InMarks.{marks-inside}

@@ -5,9 +5,9 @@ use mathlib.Core.Path.{_≡_, refl, sym, subst, _∙_}
 use mathlib.Core.Logic.{_⊎_, inl, inr, ⊎-elim}
 use mathlib.Core.List.{List, List·Memᴰ}
 use lib.ListN.{getD}
-use Rattle.theory.specs.Net.{Net}
-use Rattle.theory.specs.Walk.{Behind}
-use Rattle.theory.specs.Evidence.{InD}
+use Rattle.theory.specs.paper.Net.{Net}
+use Rattle.theory.specs.paper.Walk.{Behind}
+use Rattle.theory.specs.paper.Evidence.{InD}
 use Rattle.storage.specs.Marks.{Marks}
 use Rattle.storage.specs.Roles.{metBit, deepBit, areaBit, endBit, deepIn, areaIn, endsIn}
 use Rattle.storage.specs.Drawings.{netIn}

@@ -4,9 +4,9 @@ use mathlib.Core.Path.{_≡_}
 use mathlib.Core.Logic.{_⊎_}
 use mathlib.Core.List.{List, List·Memᴰ}
 use lib.ListN.{length, getD}
-use Rattle.theory.specs.Net.{Net, Gate}
-use Rattle.theory.specs.Walk.{Behind}
-use Rattle.theory.specs.Evidence.{peak, InD}
+use Rattle.theory.specs.paper.Net.{Net, Gate}
+use Rattle.theory.specs.paper.Walk.{Behind}
+use Rattle.theory.specs.paper.Evidence.{peak, InD}
 use Rattle.storage.specs.Entries.{Beyond}
 use Rattle.storage.specs.Marks.{Marks}
 use Rattle.storage.specs.Roles.{metIn, deepIn, areaIn, endsIn}

@@ -7,6 +7,7 @@ use storage::Numbers;
 use storage::lists::entry_at;
 use storage::lists::size_at;
 use storage::marks::label_of;
+use storage::marks::larger;
 ghost use lib.ListN.{length};
 ghost use Rattle.storage.specs.Drawings.{netIn, Fed};
 ghost use Rattle.area.specs.Area.{PeakIn, AreaAsked, AreaMarked, labelIn};
@@ -20,7 +21,7 @@ pub fn peak(fanins: &[u16], gate: Node, labels: &[u16]) -> Label
     let mut best = Label { depth: 0 };
     let mut i: usize = 0;
     while i < m {
-        best = passes::larger(best, label_of(labels, entry_at(fanins, gate, i)));
+        best = larger(best, label_of(labels, entry_at(fanins, gate, i)));
         i += 1;
     }
     best

@@ -7,33 +7,15 @@ use storage::lists::size_at;
 use storage::marks::label_of;
 use storage::roles::AREA;
 use storage::roles::AWAY;
-use storage::roles::BOTH;
 use storage::roles::DEEP;
 use storage::roles::END;
-use storage::roles::MET;
-ghost use Prim.Native.Nat.{max};
+use storage::roles::says_met;
 ghost use mathlib.Core.Path.{_≡_};
 ghost use lib.ListN.{length};
-ghost use Rattle.storage.specs.Marks.{Tells};
 ghost use Rattle.storage.specs.Lists.{listAt};
 ghost use Rattle.storage.specs.Roles.{metBit};
 ghost use Rattle.storage.specs.Drawings.{Fed};
 ghost use Rattle.area.specs.Passes.{IsDeep, Becomes, SplitAsked, Split, FaninsMarked, EndsAsked, EndsMarked};
-
-pub fn larger(a: Label, b: Label) -> Label
-    ensures { λ r. ⌜ r .depth ≡ max (a .depth) (b .depth) ⌝ }
-{
-    if a.depth < b.depth { b } else { a }
-}
-
-fn is_met(role: u8) -> bool
-    ensures { λ r. ⌜ Tells (metBit role ≡ 1) r ⌝ }
-{
-    if role == MET {
-        return true;
-    }
-    role == BOTH
-}
 
 // What becomes of a node. Inputs are never in D.
 fn turned(inputs: usize, gate: Node, p: Label, node: Node, label: Label, role: u8) -> u8
@@ -42,7 +24,7 @@ fn turned(inputs: usize, gate: Node, p: Label, node: Node, label: Label, role: u
     if node.id == gate.id {
         return DEEP;
     }
-    if !is_met(role) {
+    if !says_met(role) {
         return AWAY;
     }
     if (node.id as usize) < inputs {

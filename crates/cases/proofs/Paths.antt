@@ -5,20 +5,20 @@ use native.Mathlib.Omega.{arith}
 use mathlib.Core.Path.{_≡_, refl, sym, ap, _∙_, subst}
 use mathlib.Core.List.{List, [], _∷_, flatMap, List·Memᴰ, List·Memᴰ·head, List·Memᴰ·tail, List·Memᴰ·not-nil}
 use lib.ListN.{length, getD, length-append}
-use Rattle.theory.specs.Net.{Net, Gate}
-use Rattle.theory.specs.Sound.{Bounded, Ranked}
-use Rattle.theory.specs.Evidence.{InD, Run, TruePath, Owes, joined}
+use Rattle.theory.specs.paper.Net.{Net, Gate}
+use Rattle.theory.specs.paper.Sound.{Bounded, Ranked}
+use Rattle.theory.specs.paper.Evidence.{InD, Run, TruePath, Owes, joined}
 use Rattle.theory.proofs.Tests.{decided}
 use Rattle.theory.proofs.Walks.{met-node, reader-is-gate}
-use Rattle.sheet.specs.Sheet.{Line, Lut, Sheet, noLine}
-use Rattle.sheet.specs.Encoding.{narrow, encode, headField, lineField, lutField}
-use Rattle.sheet.specs.Rules.{lineOfNode, labelsOf, PathsKept}
+use Rattle.sheet.specs.paper.Sheet.{Line, Lut, Sheet, noLine}
+use Rattle.sheet.specs.paper.Encoding.{narrow, encode, headField, lineField, lutField}
+use Rattle.sheet.specs.paper.Rules.{lineOfNode, labelsOf, PathsKept}
 use Rattle.sheet.proofs.Lengths.{length-three, length-head, length-line}
-use Rattle.keeping.specs.Mappers.{MappersSheet}
-use Rattle.keeping.specs.Same.{SameButEvidence}
+use Rattle.keeping.specs.paper.Mappers.{MappersSheet}
+use Rattle.keeping.specs.paper.Same.{SameButEvidence}
 use Rattle.keeping.proofs.One.{mappers-sheet-is-one}
 use Rattle.keeping.proofs.Shaped.{line-at}
-use Rattle.cases.specs.Cases.{OneInput, SingleInputs}
+use Rattle.cases.specs.paper.Cases.{OneInput, SingleInputs}
 use Rattle.cases.proofs.Tests.{decides-owing, Deep}
 
 -- a path's second node has a fanin

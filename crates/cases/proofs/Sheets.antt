@@ -1,137 +1,212 @@
--- What the theory's case says of a drawing, as a sheet: it is a mapper's sheet. The gates needed are the roots of the case's cover, by induction
--- from the outputs down the ranks.
-use Prim.Native.Nat.{ℕ, _-_, _<_}
+-- A test that a sheet is the mapper's, `isMappers`, and `mapper`, which carries it to the definitions. The test is of the rules at each gate and
+-- LUT: that labels are true follows from these by the theorems, and the gates needed are the roots of the cover, by induction from the outputs down
+-- the ranks.
+use Prim.Native.Nat.{ℕ, _+_, _-_, _<_}
 use native.Mathlib.Omega.{arith}
 use mathlib.Core.Path.{_≡_, refl, sym, ap, _∙_, subst}
-use mathlib.Core.Bool.{Bool, true, cond, _||_}
+use mathlib.Core.Bool.{Bool, true, not, _&&_, _||_}
 use mathlib.Core.List.{List, [], _∷_, map, List·Memᴰ}
 use borrow.Author.Tests.{eqb-true, eq-eqb}
-use lib.ListN.{length, replicate, length-map, length-append, length-replicate}
-use lib.Dec.{eqb}
-use Rattle.theory.specs.Net.{Net, Gate}
-use Rattle.theory.specs.Lists.{greatest, isMember}
-use Rattle.theory.specs.Cover.{Wanted, Label}
-use Rattle.theory.specs.Evidence.{MappersCut, Owes}
-use Rattle.theory.specs.Lookup.{ConeTable}
+use lib.ListN.{length}
+use lib.Dec.{ltb, eqb}
+use Rattle.theory.specs.paper.Net.{Net, Gate}
+use Rattle.theory.specs.paper.Values.{rowOf, resultAt}
+use Rattle.theory.specs.paper.Lists.{greatest}
+use Rattle.theory.specs.Members.{isMember}
+use Rattle.theory.specs.paper.Sound.{Bounded, Ranked}
+use Rattle.theory.specs.paper.Cover.{Wanted, Cover}
+use Rattle.theory.specs.Members as theory
+use Rattle.theory.specs.paper.Evidence.{MappersCut}
+use Rattle.theory.specs.Lines.{Lines}
+use Rattle.theory.specs.paper.Lookup.{ConeTable}
+use Rattle.theory.proofs.Tests.{passed, decides-itself, _and-then_, decides-if, decides-lt, decides-equal, decides-every, decides-below, every, everyBelow}
 use Rattle.theory.proofs.Ranks.{by-rank, common-bound}
+use Rattle.theory.proofs.Picks.{settingOf}
+use Rattle.theory.proofs.Rows.{bitsOf, tableOf}
+use Rattle.theory.proofs.Valuations.{valueWithin, settle}
 use Rattle.theory.proofs.Walks.{met-rank}
+use Rattle.theory.proofs.Cones.{coneValue, rowValue, coneTableAlong, cone-table}
 use Rattle.theory.proofs.Rules.{lines-are-labels}
 use Rattle.theory.proofs.MappersCovers.{same-test}
-use Rattle.theory.specs.Cases.{Drawing, Claim, noClaim, Lut, rootsOf, tableAt, undrawn, Mapped}
-use Rattle.theory.specs.Cases as theory
-use Rattle.covering.specs.Covers.{Needed}
-use Rattle.sheet.specs.Sheet as sheet
-use Rattle.sheet.specs.Rules.{lineOfNode, isListed, leavesListed, tableListed, PathsKept}
-use Rattle.sheet.specs.Sheet.{Roots}
-use Rattle.keeping.specs.Mappers.{chosenBy, MappersSheet}
-use Rattle.sheet.proofs.Listed.{ListedLut, listed-lut}
-use Rattle.keeping.proofs.Listed.{map-member}
-use Rattle.cases.specs.Cases.{claimAt, lineFor, lutFor, sheetFor}
-use Rattle.cases.proofs.Nets.{after-inputs}
+use Rattle.theory.proofs.DecideNet.{isGate, decides-gate, isBounded, decides-bounded, isRankedBy, decides-ranked-by, NothingBeyond, ranked-by}
+use Rattle.theory.proofs.DecideLabels.{areLabels, decides-labels}
+use Rattle.theory.proofs.DecideMapper.{isMappersCut, decides-mappers-cut}
+use Rattle.theory.proofs.DecideCover.{isCover, decides-cover}
+use Rattle.covering.specs.paper.Needed.{Needed}
+use Rattle.sheet.specs.paper.Sheet.{Line, Lut, Sheet, Roots}
+use Rattle.sheet.specs.paper.Rules.{lineOfNode, labelsOf, isListed, leavesListed, tableListed}
+use Rattle.sheet.proofs.Listed.{ListedLut, listed-lut, member-listed}
+use Rattle.keeping.specs.paper.Mappers.{chosenBy, MappersSheet}
+use Rattle.cases.proofs.Tests.{both, isSameNumbers, same-numbers, areRoots, roots-rise, isFair, fair, Fair}
 
--- LUTs listed, by the case's own
+abbrev linesOf : Net → Sheet → ℕ → Line
+linesOf net sheet = lineOfNode (net .inputs) (sheet .lines)
 
+abbrev rootsOf : Sheet → List ℕ
+rootsOf sheet = map (λ lut. lut .root) (sheet .luts)
+
+-- has a LUT its root's leaves, and its cone's table? Fanins stand before their gates in these drawings, so ids serve as ranks.
+unfoldable fits : Net → (tables : ℕ → ℕ) → (ℕ → Line) → Lut → Bool
+unfolding isSameNumbers coneTableAlong rowValue coneValue settle valueWithin tableOf settingOf bitsOf isMember rowOf resultAt
+fits net tables line lut =
+    isSameNumbers (lut .leaves) (line (lut .root) .leaves) && eqb (coneTableAlong net tables (λ v. v) (line (lut .root) .leaves) (lut .root)) (lut .table)
+
+unfoldable pub isMappers : Net → (tables : ℕ → ℕ) → (k : ℕ) → (outputs : List ℕ) → Sheet → Bool
+unfolding isBounded isRankedBy areLabels every everyBelow isGate isMappersCut isCover fits greatest isMember areRoots isFair lineOfNode
+isMappers net tables k outputs sheet =
+    isBounded net k && isRankedBy (λ v. v) net && every (λ v. ltb v (net .nodes)) outputs &&
+    areLabels net k (λ v. linesOf net sheet v .label) (λ v. linesOf net sheet v .leaves) (λ v. linesOf net sheet v .paths) &&
+    everyBelow (net .nodes) (λ t. not (isGate net t) || isMappersCut net k (λ v. linesOf net sheet v .label) t (linesOf net sheet t .leaves)) &&
+    isCover net k outputs (rootsOf sheet) (λ v. linesOf net sheet v .leaves) &&
+    every (fits net tables (linesOf net sheet)) (sheet .luts) &&
+    eqb (sheet .depth) (greatest (map (λ v. linesOf net sheet v .label) outputs)) &&
+    eqb (net .inputs + length (sheet .lines)) (net .nodes) &&
+    areRoots (net .nodes) (net .inputs) (sheet .luts) &&
+    isFair net (λ v. linesOf net sheet v .label) (λ v. linesOf net sheet v .paths)
+
+-- the LUTs listed, by the list of their roots
 turned : (a b : ℕ) → eqb a b ≡ eqb b a
 turned a b = same-test (eqb a b) (eqb b a) (λ e. eq-eqb b a (sym (eqb-true a b e))) (λ e. eq-eqb a b (sym (eqb-true b a e)))
 
-module _ (claim : ℕ → Claim) where
-  roots-listed : (luts : List Lut) (v : ℕ) → isListed (map (lutFor claim) luts) v ≡ isMember v (rootsOf luts)
-  unfolding isListed isMember
-  roots-listed [] v = refl
-  roots-listed (lut ∷ luts) v = λ i. turned (lut .root) v i || roots-listed luts v i
+roots-listed : (luts : List Lut) (v : ℕ) → isListed luts v ≡ isMember v (map (λ lut. lut .root) luts)
+unfolding isListed isMember
+roots-listed [] v = refl
+roots-listed (lut ∷ luts) v = λ i. turned (lut .root) v i || roots-listed luts v i
 
-  tables-listed : (luts : List Lut) (v : ℕ) → tableListed (map (lutFor claim) luts) v ≡ tableAt luts v
-  unfolding tableListed tableAt
-  tables-listed [] v = refl
-  tables-listed (lut ∷ luts) v = λ i. cond (turned (lut .root) v i) (lut .table) (tables-listed luts v i)
+-- What the tests of a sheet show, and that it is the mapper's
+module _ (net : Net) (tables : ℕ → ℕ) (k : ℕ) (outputs : List ℕ) (sheet : Sheet) where
+  abbrev lab : ℕ → ℕ
+  lab = labelsOf (net .inputs) (sheet .lines)
 
-  leaves-listed : (luts : List Lut) (v : ℕ) → isListed (map (lutFor claim) luts) v ≡ true → leavesListed (map (lutFor claim) luts) v ≡ claim v .leaves
-  leaves-listed luts v listed =
-      let l : ListedLut (map (lutFor claim) luts) v = listed-lut (map (lutFor claim) luts) v listed in
-      let (lut, (_, e)) = map-member (lutFor claim) luts (l .member) in
-      let root : lut .root ≡ v = sym (ap (λ (x : sheet.Lut). x .root) e) ∙ l .root-is in
-      l .leaves-are ∙ ap (λ (x : sheet.Lut). x .leaves) e ∙ ap (λ (r : ℕ). claim r .leaves) root
+  abbrev leaves : ℕ → List ℕ
+  leaves v = linesOf net sheet v .leaves
 
-module _ (drawing : Drawing) (k : ℕ) (outputs : List ℕ) (claims : List Claim) (luts : List Lut) (depth : ℕ)
-    (mapped : Mapped (theory.netOf drawing) (theory.tablesOf drawing) k outputs (claimAt drawing claims) luts depth) where
-  abbrev net : Net
-  net = theory.netOf drawing
+  abbrev paths : ℕ → List (List ℕ)
+  paths v = linesOf net sheet v .paths
 
-  abbrev claim : ℕ → Claim
-  claim = claimAt drawing claims
+  record Tested : Type 0 where
+    pub bounded : Bounded net k
+    pub ranked : Ranked net
+    pub lines : Lines net k lab leaves paths
+    pub cuts : (t : ℕ) → Gate net t → MappersCut net k lab t (leaves t)
+    pub cover : Cover net k outputs (theory.lutsOf (rootsOf sheet) leaves)
+    pub fit : (lut : Lut) → List·Memᴰ lut (sheet .luts) → (lut .leaves ≡ leaves (lut .root)) × ConeTable net tables (leaves (lut .root)) (lut .root) (lut .table)
+    pub depth : sheet .depth ≡ greatest (map lab outputs)
+    pub as-many : net .inputs + length (sheet .lines) ≡ net .nodes
+    pub roots : Roots (net .nodes) (net .inputs) (sheet .luts)
+    pub fair : Fair net lab paths
 
-  abbrev lines : List sheet.Line
-  lines = map lineFor claims
+  module _ (tested : Tested) where
+    abbrev isRoot : ℕ → Bool
+    isRoot v = isMember v (rootsOf sheet)
 
-  pub lines-are : lineOfNode (drawing .inputs) lines ≡ (λ v. lineFor (claim v))
-  unfolding lineOfNode
-  lines-are i v = after-inputs lineFor (drawing .inputs) noClaim claims v i
+    abbrev chosen : Net
+    chosen = chosenBy net (sheet .lines)
 
-  leaves-are : (v : ℕ) → lineOfNode (drawing .inputs) lines v .leaves ≡ claim v .leaves
-  leaves-are v i = lines-are i v .leaves
+    chosen-gate : {v : ℕ} → Gate net v → Gate chosen v
+    chosen-gate gate = record { above = gate .above; below = gate .below }
 
-  -- the gates needed are the roots
-  abbrev isRoot : ℕ → Bool
-  isRoot v = isMember v (rootsOf luts)
+    -- the gates needed are the roots
+    abbrev IsNeeded : ℕ → Type 0
+    IsNeeded r = isRoot r ≡ true → Needed chosen outputs r
 
-  abbrev chosen : Net
-  chosen = chosenBy net lines
+    needed-after : (r : ℕ) → ((s : ℕ) → isRoot s ≡ true → tested .ranked .rank r < tested .ranked .rank s → Needed chosen outputs s) → IsNeeded r
+    needed-after r higher at = by (tested .cover .needed r at)
+      where
+        by : Wanted outputs (theory.lutsOf (rootsOf sheet) leaves) r → Needed chosen outputs r
+        by (Wanted.output m) = Needed.output m (chosen-gate (tested .cover .gates r at))
+        by (Wanted.leaf s up m) =
+            let less = met-rank (tested .ranked) (tested .cover .cuts s up .met r m) in
+            Needed.leaf (higher s up less) m (chosen-gate (tested .cover .gates r at))
 
-  chosen-gate : {v : ℕ} → Gate net v → Gate chosen v
-  chosen-gate gate = record { above = gate .above; below = gate .below }
+    root-needed : (r : ℕ) → IsNeeded r
+    root-needed =
+        let (b, above) = common-bound (tested .ranked .rank) (net .nodes) in
+        by-rank IsNeeded (λ r. b - tested .ranked .rank r) (λ r higher.
+        needed-after r (λ s up less. higher s (let low = above s (tested .cover .gates s up .below) in omega arith) up))
 
-  abbrev IsNeeded : ℕ → Type 0
-  IsNeeded r = isRoot r ≡ true → Needed chosen outputs r
+    needed-root : {v : ℕ} → Needed chosen outputs v → isRoot v ≡ true
+    needed-root {v} (Needed.output m gate) = tested .cover .closed v (record { above = gate .above; below = gate .below }) (Wanted.output m)
+    needed-root {v} (Needed.leaf {r = r} needs m gate) =
+        tested .cover .closed v (record { above = gate .above; below = gate .below }) (Wanted.leaf r (needed-root needs) m)
 
-  needed-after : (r : ℕ) → ((s : ℕ) → isRoot s ≡ true → mapped .ranked .rank r < mapped .ranked .rank s → Needed chosen outputs s) → IsNeeded r
-  needed-after r higher at = by (mapped .cover .needed r at)
-    where
-      by : Wanted outputs (theory.lutsIn luts claim) r → Needed chosen outputs r
-      by (Wanted.output m) = Needed.output m (chosen-gate (mapped .cover .gates r at))
-      by (Wanted.leaf s up m) =
-          let less = met-rank (mapped .ranked) (mapped .cover .cuts s up .met r m) in
-          Needed.leaf (higher s up less) (subst (List·Memᴰ r) (sym (leaves-are s)) m) (chosen-gate (mapped .cover .gates r at))
+    leaves-listed : (v : ℕ) → isListed (sheet .luts) v ≡ true → leavesListed (sheet .luts) v ≡ leaves v
+    leaves-listed v listed =
+        let l : ListedLut (sheet .luts) v = listed-lut (sheet .luts) v listed in
+        l .leaves-are ∙ tested .fit (l .lut) (l .member) .0 ∙ ap leaves (l .root-is)
 
-  root-needed : (r : ℕ) → IsNeeded r
-  root-needed =
-      let (b, above) = common-bound (mapped .ranked .rank) (net .nodes) in
-      by-rank IsNeeded (λ r. b - mapped .ranked .rank r) (λ r higher.
-      needed-after r (λ s up less. higher s (let low = above s (mapped .cover .gates s up .below) in omega arith) up))
+    functions-listed : (v : ℕ) → isListed (sheet .luts) v ≡ true → ConeTable net tables (leavesListed (sheet .luts) v) v (tableListed (sheet .luts) v)
+    functions-listed v listed =
+        let l : ListedLut (sheet .luts) v = listed-lut (sheet .luts) v listed in
+        subst (λ (ls : List ℕ). ConeTable net tables ls v (tableListed (sheet .luts) v)) (sym (leaves-listed v listed))
+        (subst (ConeTable net tables (leaves v) v) (sym (l .table-is))
+        (subst (λ (r : ℕ). ConeTable net tables (leaves r) r (l .lut .table)) (l .root-is) (tested .fit (l .lut) (l .member) .1)))
 
-  needed-root : {v : ℕ} → Needed chosen outputs v → isRoot v ≡ true
-  needed-root {v} (Needed.output m gate) = mapped .cover .closed v (record { above = gate .above; below = gate .below }) (Wanted.output m)
-  needed-root {v} (Needed.leaf {r = r} needs m gate) =
-      mapped .cover .closed v (record { above = gate .above; below = gate .below })
-      (Wanted.leaf r (needed-root needs) (subst (List·Memᴰ v) (leaves-are r) m))
-
-  module _ (as-many : length claims ≡ length (drawing .gates)) (roots : Roots (net .nodes) (drawing .inputs) (map (lutFor claim) luts))
-      (fair : (t : ℕ) → Gate net t → (Owes net (λ v. claim v .label) t → ⊥) → claim t .paths ≡ []) where
-    pub mappers-sheet : MappersSheet net (theory.tablesOf drawing) k outputs (sheetFor drawing claims luts depth)
+    mappers-sheet : MappersSheet net tables k outputs sheet
     mappers-sheet =
         record {
-          gates =
-              omega (
-                arith,
-                as-many,
-                length-map claims lineFor,
-                length-append (replicate (drawing .inputs) undrawn) (drawing .gates),
-                length-replicate (drawing .inputs) undrawn,
-              );
-          labels = λ t gate any.
-              subst (λ (l : ℕ → sheet.Line). Label net k any t (l t .label)) (sym lines-are)
-              (lines-are-labels (mapped .bounded) (mapped .lines) (mapped .ranked) any t (gate .below));
-          cuts = λ t gate.
-              subst (λ (l : ℕ → sheet.Line). MappersCut net k (λ v. l v .label) t (l t .leaves)) (sym lines-are) (mapped .cuts t gate);
+          gates = tested .as-many;
+          labels = λ t gate any. lines-are-labels (tested .bounded) (tested .lines) (tested .ranked) any t (gate .below);
+          cuts = tested .cuts;
           evidence = λ t gate.
-              subst (λ (l : ℕ → sheet.Line). PathsKept net k (λ v. l v .label) t (l t .paths)) (sym lines-are)
-              (record { due = λ owes. mapped .lines .gates t gate .shown (owes .above) (owes .some); not-due = fair t gate });
-          roots = roots;
-          needed = λ v listed. root-needed v (sym (roots-listed claim luts v) ∙ listed);
-          all = λ v needed. roots-listed claim luts v ∙ needed-root needed;
-          leaves = λ v listed. leaves-listed claim luts v listed ∙ sym (leaves-are v);
-          functions = λ v listed.
-              subst (λ (table : ℕ). ConeTable net (theory.tablesOf drawing) (leavesListed (map (lutFor claim) luts) v) v table) (sym (tables-listed claim luts v))
-              (subst (λ (leaves : List ℕ). ConeTable net (theory.tablesOf drawing) leaves v (tableAt luts v)) (sym (leaves-listed claim luts v listed))
-              (mapped .fit v (sym (roots-listed claim luts v) ∙ listed)));
-          depth = sym (mapped .deepest) ∙ ap (λ (l : ℕ → sheet.Line). greatest (map (λ v. l v .label) outputs)) (sym lines-are);
+              record { due = λ owes. tested .lines .gates t gate .shown (owes .above) (owes .some); not-due = tested .fair t gate };
+          roots = tested .roots;
+          needed = λ v listed. root-needed v (sym (roots-listed (sheet .luts) v) ∙ listed);
+          all = λ v needed. roots-listed (sheet .luts) v ∙ needed-root needed;
+          leaves = leaves-listed;
+          functions = functions-listed;
+          depth = tested .depth;
         }
+
+  -- What the test shows
+  pub record Mapper : Type 0 where
+    pub bounded : Bounded net k
+    pub ranked : Ranked net
+    pub nodes : (v : ℕ) → List·Memᴰ v outputs → v < net .nodes
+    pub mappers : MappersSheet net tables k outputs sheet
+
+  pub mapper : NothingBeyond net → isMappers net tables k outputs sheet ≡ true → Mapper
+  unfolding isMappers fits ranked-by
+  mapper nothing =
+      passed
+      (decides-bounded net k
+      and-then (λ _. decides-ranked-by (λ v. v) net)
+      and-then (λ _. decides-every _ (λ v. decides-lt v (net .nodes)) outputs)
+      and-then (λ h. decides-labels (h .0 .0) k lab leaves paths)
+      and-then (λ h. decides-below (net .nodes) _ (λ t node. decides-if (decides-gate net t) (λ _. decides-mappers-cut (h .0 .0 .0) k lab node (leaves t))))
+      and-then (λ h. decides-cover (h .0 .0 .0 .0) k outputs (rootsOf sheet) leaves)
+      and-then (λ _. decides-every _ (λ lut. decides-itself (fits net tables (linesOf net sheet) lut)) (sheet .luts))
+      and-then (λ _. decides-equal (sheet .depth) (greatest (map lab outputs)))
+      and-then (λ _. decides-equal (net .inputs + length (sheet .lines)) (net .nodes))
+      and-then (λ _. decides-itself (areRoots (net .nodes) (net .inputs) (sheet .luts)))
+      and-then (λ _. decides-itself (isFair net lab paths)))
+      (λ ((((((((((bounded, rises), nodes), lines), cuts), cover), fit), depth), as-many), roots-test), fair-test).
+      let ranked : Ranked net = ranked-by nothing rises in
+      let roots : Roots (net .nodes) (net .inputs) (sheet .luts) = roots-rise (net .nodes) (net .inputs) (sheet .luts) roots-test in
+      let root : (lut : Lut) → List·Memᴰ lut (sheet .luts) → isMember (lut .root) (rootsOf sheet) ≡ true =
+      λ lut m. sym (roots-listed (sheet .luts) (lut .root)) ∙ member-listed roots lut m .listed in
+      record {
+        bounded = bounded;
+        ranked = ranked;
+        nodes = nodes;
+        mappers =
+            mappers-sheet
+            (record {
+              bounded = bounded;
+              ranked = ranked;
+              lines = lines;
+              cuts = λ t gate. cuts t (gate .below) gate;
+              cover = cover;
+              fit = λ lut m.
+                  let (same, table) = both {a = isSameNumbers (lut .leaves) (leaves (lut .root))} (fit lut m) in
+                  let at = root lut m in (
+                    same-numbers (lut .leaves) (leaves (lut .root)) same,
+                    subst (ConeTable net tables (leaves (lut .root)) (lut .root)) (eqb-true _ _ table)
+                        (cone-table net tables ranked k (lut .root) (leaves (lut .root)) (cover .cuts (lut .root) at) (bounded .nodes) (cover .gates (lut .root) at)),
+                  );
+              depth = depth;
+              as-many = as-many;
+              roots = roots;
+              fair = fair net lab paths fair-test;
+            });
+      })

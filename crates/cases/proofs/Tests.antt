@@ -1,23 +1,23 @@
--- Tests for what a case in bytes needs besides what the theory's cases have: that lists and tables are the same, that roots rise, that paths are
--- given only where they are due, and that every gate behind a gate with evidence is in D.
+-- Tests for what a case needs besides what the theory decides: that lists and tables are the same, that roots rise, that paths are given only
+-- where they are due, and that every gate behind a gate with evidence is in D.
 use Prim.Native.Nat.{ℕ, suc}
 use mathlib.Core.Path.{_≡_, refl, ap}
 use mathlib.Core.Bool.{Bool, true, false, not, _&&_, _||_, false≢true}
 use mathlib.Core.List.{List, [], _∷_}
 use lib.Dec.{leb, ltb, eqb}
 use borrow.Author.Tests.{eqb-true}
-use Rattle.theory.specs.Net.{Net, Gate}
-use Rattle.theory.specs.Lists.{greatest}
-use Rattle.theory.specs.Sound.{Bounded}
-use Rattle.theory.specs.Walk.{Behind}
-use Rattle.theory.specs.Evidence.{peak, Owes}
+use Rattle.theory.specs.paper.Net.{Net, Gate}
+use Rattle.theory.specs.paper.Lists.{greatest}
+use Rattle.theory.specs.paper.Sound.{Bounded}
+use Rattle.theory.specs.paper.Walk.{Behind}
+use Rattle.theory.specs.paper.Evidence.{peak, Owes}
 use Rattle.theory.proofs.Tests.{Decides, decides-as, decides-itself, passed, _and-then_, decides-not, decides-if, decides-le, decides-lt, decides-equal, decides-below, everyBelow}
 use Rattle.theory.proofs.DecideNet.{isGate, decides-gate}
 use Rattle.theory.proofs.DecideCut.{isBehind, decides-behind}
 use Rattle.drawing.specs.declared.Verdict.{Verdict}
 use Rattle.drawing.specs.declared.Verdict.the-variants.{Sound, Refused}
-use Rattle.drawing.specs.Table.{GateLine, Table}
-use Rattle.sheet.specs.Sheet.{Lut, Roots}
+use Rattle.drawing.specs.paper.Table.{GateLine, Table}
+use Rattle.sheet.specs.paper.Sheet.{Lut, Roots}
 
 -- where a test and a second pass, both do
 pub both : {a b : Bool} → a && b ≡ true → (a ≡ true) × (b ≡ true)
@@ -119,8 +119,10 @@ unfoldable pub isFair : Net → (ℕ → ℕ) → (ℕ → List (List ℕ)) → 
 unfolding everyBelow isGate isOwing
 isFair net lab paths = everyBelow (net .nodes) (λ t. not (isGate net t) || (not (not (isOwing net lab t)) || isNone (paths t)))
 
-pub fair : (net : Net) (lab : ℕ → ℕ) (paths : ℕ → List (List ℕ)) → isFair net lab paths ≡ true →
-    (t : ℕ) → Gate net t → (Owes net lab t → ⊥) → paths t ≡ []
+abbrev pub Fair : Net → (ℕ → ℕ) → (ℕ → List (List ℕ)) → Type 0
+Fair net lab paths = (t : ℕ) → Gate net t → (Owes net lab t → ⊥) → paths t ≡ []
+
+pub fair : (net : Net) (lab : ℕ → ℕ) (paths : ℕ → List (List ℕ)) → isFair net lab paths ≡ true → Fair net lab paths
 unfolding isFair
 fair net lab paths =
     passed

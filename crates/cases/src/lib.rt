@@ -1,1 +1,1 @@
-// The paper's small drawings as bytes: the table of cases in specs/, its one proof in proofs/. No code.
+// The paper's small drawings: the table of cases in specs/, its one proof in proofs/, and there the traps, statements that wrong readings fail. No code.

@@ -17,8 +17,9 @@ use Rattle.storage.proofs.Clears.{cleared-low, cleared-beyond, beyond-same, bey
 use Rattle.storage.proofs.Entries.{part-place, member-of-part}
 use Rattle.storage.proofs.Drawings.{fanins-in, gate-of, gate-above, gate-below}
 use Rattle.storage.proofs.InLists.{list-member}
-use Rattle.theory.specs.Net.{Gate}
-use Rattle.covering.specs.Covers.{CoverAsked, Needed, isRoot, lutCount, CoverMade, GatesFit, GateAmong, GatesMarked, CutFits, LeavesMarked, MarksFit}
+use Rattle.theory.specs.paper.Net.{Gate}
+use Rattle.covering.specs.paper.Needed.{Needed}
+use Rattle.covering.specs.Covers.{CoverAsked, isRoot, lutCount, CoverMade, GatesFit, GateAmong, GatesMarked, CutFits, LeavesMarked, MarksFit}
 use Rattle.covering.proofs.Marking.{marked-beyond}
 use Rattle.covering.proofs.Orders.{needed-gate, order-gate, gate-place, order-once, fanin-before}
 

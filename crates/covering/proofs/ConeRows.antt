@@ -15,10 +15,10 @@ use Rattle.storage.proofs.Entries.{member-of-part, one-place}
 use Rattle.storage.proofs.Clears.{cleared-low, cleared-beyond, cleared-used, drop-same, beyond-same, beyond-then}
 use Rattle.storage.proofs.Drawings.{fanins-in, gate-below}
 use Rattle.storage.proofs.InLists.{list-member}
-use Rattle.theory.specs.Net.{Gate}
-use Rattle.theory.specs.Sound.{Ranked}
-use Rattle.theory.specs.Values.{bit, rowOf, resultAt}
-use Rattle.theory.specs.Lookup.{ObeysCone, ConeTable}
+use Rattle.theory.specs.paper.Net.{Gate}
+use Rattle.theory.specs.paper.Sound.{Ranked}
+use Rattle.theory.specs.paper.Values.{bit, rowOf, resultAt}
+use Rattle.theory.specs.paper.Lookup.{ObeysCone, ConeTable}
 use Rattle.theory.proofs.Members.{rising-no-repeats}
 use Rattle.theory.proofs.Walks.{walked-no-leaf, met-node}
 use Rattle.theory.proofs.Cuts.{root-no-leaf}

@@ -14,18 +14,19 @@ use Rattle.storage.specs.Drawings.{netIn, tablesIn, Arranged}
 use Rattle.storage.specs.Marks.{Marks}
 use Rattle.storage.specs.Lists.{listAt}
 use Rattle.storage.proofs.Drawings.{fanins-in, gate-below}
-use Rattle.theory.specs.Net.{Gate}
-use Rattle.theory.specs.Sound.{Ranked}
-use Rattle.theory.specs.Lists.{greatest}
-use Rattle.theory.specs.Walk.{Cut}
-use Rattle.theory.specs.Values.{Obeys}
-use Rattle.theory.specs.Cover.{Luts, Wanted, Cover, Depth, Depths}
-use Rattle.theory.specs.Lookup.{ConeTable, ObeysLuts}
+use Rattle.theory.specs.paper.Net.{Gate}
+use Rattle.theory.specs.paper.Sound.{Ranked}
+use Rattle.theory.specs.paper.Lists.{greatest}
+use Rattle.theory.specs.paper.Walk.{Cut}
+use Rattle.theory.specs.paper.Values.{Obeys}
+use Rattle.theory.specs.paper.Cover.{Luts, Wanted, Cover, Depth, Depths}
+use Rattle.theory.specs.paper.Lookup.{ConeTable, ObeysLuts}
 use Rattle.theory.proofs.FlowMap.{Labels}
 use Rattle.theory.proofs.MappersCovers.{no-cover-shallower, depth-is-label, cover-depth-is-label, roots-are-one}
 use Rattle.theory.proofs.Computes.{luts-compute-outputs}
 use Rattle.walking.proofs.Orders.{drawn-ranked}
-use Rattle.covering.specs.Covers.{CutsIn, Chosen, Needed, isRoot, lutsIn}
+use Rattle.covering.specs.paper.Needed.{Needed}
+use Rattle.covering.specs.Covers.{CutsIn, Chosen, isRoot, lutsIn}
 use Rattle.covering.proofs.Orders.{needed-gate, gate-there, leaves-chosen}
 
 -- Marks as roots

@@ -11,8 +11,8 @@ use lib.Seq.{drop-cons, drop-length, getD-take, length-take-le}
 use lib.Dec.{eqb}
 use Rattle.storage.specs.Entries.{Beyond}
 use Rattle.storage.proofs.Clears.{drop-same}
-use Rattle.theory.specs.Lists.{greatest}
-use Rattle.theory.specs.Values.{bit}
+use Rattle.theory.specs.paper.Lists.{greatest}
+use Rattle.theory.specs.paper.Values.{bit}
 use Rattle.covering.specs.Covers.{isRoot, lutCount, GateMarked, GatesFit, GateAmong, GatesMarked, MarksFit}
 use Rattle.covering.proofs.Stores.{stored-or-kept}
 

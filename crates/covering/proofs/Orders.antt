@@ -9,11 +9,12 @@ use Rattle.storage.specs.Lists.{sizeAt}
 use Rattle.storage.specs.Drawings.{netIn, Ordered, Arranged}
 use Rattle.storage.proofs.Entries.{PartPlace, part-place, member-of-part, one-place}
 use Rattle.storage.proofs.Drawings.{gate-of, gate-above, gate-below, drawn-span}
-use Rattle.theory.specs.Net.{Net, Gate}
-use Rattle.theory.specs.Sound.{Bounded}
-use Rattle.theory.specs.Walk.{Walked, Met}
+use Rattle.theory.specs.paper.Net.{Net, Gate}
+use Rattle.theory.specs.paper.Sound.{Bounded}
+use Rattle.theory.specs.paper.Walk.{Walked, Met}
 use Rattle.theory.proofs.Walks.{reader-is-gate, walked-node, met-node}
-use Rattle.covering.specs.Covers.{Chosen, Needed}
+use Rattle.covering.specs.paper.Needed.{Needed}
+use Rattle.covering.specs.Covers.{Chosen}
 
 -- what is needed is a gate
 pub needed-gate : {chosen : Net} {outputs : List ℕ} {v : ℕ} → Needed chosen outputs v → Gate chosen v

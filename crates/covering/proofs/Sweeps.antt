@@ -13,7 +13,7 @@ use lib.ListN.{length, getD, take, drop, set, length-map, length-take, length-dr
 use lib.Seq.{take-all, drop-drop, drop-cons, drop-length, getD-take, getD-drop, getD-set-same, getD-set-other}
 use lib.Pow.{pow-mono}
 use Rattle.storage.specs.Lists.{sizeAt, listAt}
-use Rattle.theory.specs.Values.{bit, rowOf, resultAt}
+use Rattle.theory.specs.paper.Values.{bit, rowOf, resultAt}
 use Rattle.theory.proofs.Rows.{bit-below, result-lowest, row-below}
 use Rattle.theory.proofs.Picks.{map-agree}
 use Rattle.covering.specs.Cones.{valueIn, resultIn, RowFits, GateFits, GateSettled, SweepFits, Swept, LeavesFit, LeavesSet}

@@ -7,10 +7,10 @@ use lib.ListN.{length, getD, take, set}
 use Rattle.storage.specs.Entries.{cleared}
 use Rattle.storage.specs.Lists.{sizeAt, listAt}
 use Rattle.storage.specs.Drawings.{netIn, tablesIn, Arranged}
-use Rattle.theory.specs.Net.{Gate}
-use Rattle.theory.specs.Walk.{Cut}
-use Rattle.theory.specs.Values.{bit, rowOf, resultAt}
-use Rattle.theory.specs.Lookup.{ConeTable}
+use Rattle.theory.specs.paper.Net.{Gate}
+use Rattle.theory.specs.paper.Walk.{Cut}
+use Rattle.theory.specs.paper.Values.{bit, rowOf, resultAt}
+use Rattle.theory.specs.paper.Lookup.{ConeTable}
 
 -- The arrays hold a drawing with its tables and an order of its gates; t is a gate and the first `size` leaves are a cut of it; and there is
 -- a word a node for the values.

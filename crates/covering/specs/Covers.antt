@@ -10,10 +10,11 @@ use Rattle.storage.specs.Entries.{Beyond}
 use Rattle.storage.specs.Marks.{Marks}
 use Rattle.storage.specs.Lists.{sizeAt, listAt}
 use Rattle.storage.specs.Drawings.{netIn, Ordered}
-use Rattle.theory.specs.Net.{Net, Gate}
-use Rattle.theory.specs.Values.{bit}
-use Rattle.theory.specs.Walk.{Cut}
-use Rattle.theory.specs.Cover.{Luts}
+use Rattle.theory.specs.paper.Net.{Gate}
+use Rattle.theory.specs.paper.Values.{bit}
+use Rattle.theory.specs.paper.Walk.{Cut}
+use Rattle.theory.specs.paper.Cover.{Luts}
+use Rattle.covering.specs.paper.Needed.{Needed}
 
 -- Each gate has a cut: a list of up to six leaves.
 pub record CutsIn (inputs nodes k : ℕ) (fanins cuts : List ℕ) : Type 0 where
@@ -37,11 +38,6 @@ pub record CoverAsked (inputs nodes : ℕ) (order cuts outputs : List ℕ) (numb
   pub output-nodes : (v : ℕ) → List·Memᴰ v (take number outputs) → v < nodes
   pub luts-long : nodes ≤ room
 
--- "Its LUTs are the output gates, then their gate leaves, and so back to the inputs": the gates needed, where a gate's fanins are its leaves.
-pub data Needed (chosen : Net) (outputs : List ℕ) : ℕ → Type 0 where
-  output : {v : ℕ} → List·Memᴰ v outputs → Gate chosen v → Needed chosen outputs v
-  leaf : {r v : ℕ} → Needed chosen outputs r → List·Memᴰ v (chosen .fanins r) → Gate chosen v → Needed chosen outputs v
-
 unfoldable pub isRoot : (nodes : ℕ) → List ℕ → ℕ → Bool
 isRoot nodes luts v = eqb (getD (take nodes luts) v 0) 1
 
@@ -64,8 +60,6 @@ pub record CoverMade (inputs nodes : ℕ) (cuts outputs before : List ℕ) (numb
 pub record DepthAsked (labels outputs : List ℕ) (number : ℕ) : Type 0 where
   pub outputs-long : number ≤ length outputs
   pub labelled : (v : ℕ) → List·Memᴰ v (take number outputs) → v < length labels
-
--- The steps
 
 pub record GateMarked (v inputs : ℕ) (before after : List ℕ) : Type 0 where
   pub gate : inputs ≤ v → after ≡ set before v 1

@@ -5,13 +5,14 @@ use storage::Node;
 use storage::Numbers;
 use storage::columns::clear_words;
 use storage::lists::PLACES;
+use storage::lists::node_at;
 use storage::lists::size_at;
 ghost use mathlib.Core.Path.{_≡_};
 ghost use mathlib.Core.List.{map};
 ghost use Prim.Native.Nat.{_+_, _*_, _^_, _≤_, _<_};
 ghost use lib.ListN.{length, take, drop};
 ghost use Rattle.storage.specs.Lists.{Place};
-ghost use Rattle.theory.specs.Values.{bit, rowOf, resultAt};
+ghost use Rattle.theory.specs.paper.Values.{bit, rowOf, resultAt};
 ghost use Rattle.covering.specs.Cones.{ConeAsked, ConeAnswered, valueIn, RowFits, GateFits, GateSettled, SweepFits, Swept, LeavesFit, LeavesSet, FirstPlace};
 
 // The result of a table at a row.
@@ -55,12 +56,13 @@ fn row_of(ids: &[u16], at: usize, many: usize, values: &[u64]) -> u64
 }
 
 // The leaves get the bits of the row.
-fn set_leaves(leaves: &[u16], size: usize, row: u64, values: &mut [u64])
-    requires { ⌜ LeavesFit (now leaves) size (length (now values)) ⌝ }
-    ensures { λ _. ⌜ LeavesSet (now (leaves .entry)) size row (now (values .entry)) (now (values .exit)) ⌝ }
+fn set_leaves(leaves: &[u16], size: CutSize, row: u64, values: &mut [u64])
+    requires { ⌜ LeavesFit (now leaves) (size .leaves) (length (now values)) ⌝ }
+    ensures { λ _. ⌜ LeavesSet (now (leaves .entry)) (size .leaves) row (now (values .entry)) (now (values .exit)) ⌝ }
 {
+    let many = size.leaves as usize;
     let mut i: usize = 0;
-    while i < size {
+    while i < many {
         values[leaves[i] as usize] = 2 + result_at(row, i as u64);
         i += 1;
     }
@@ -101,7 +103,7 @@ fn sweep(fanins: &[u16], rows: &[u64], order: &[u16], upto: usize, values: &mut 
 {
     let mut i = 0;
     while i < upto {
-        settle_gate(fanins, rows, Node { id: order[i] }, values);
+        settle_gate(fanins, rows, node_at(order, i), values);
         i += 1;
     }
 }
@@ -125,13 +127,12 @@ pub fn cone_table(
 {
     clear_words(values, numbers.nodes);
     let upto = place_of(order, gate) + 1;
-    let many = size.leaves as usize;
     let all = rows_of(size);
     let at = gate.id as usize;
     let mut table: u64 = 0;
     let mut row: u64 = 0;
     while row < all {
-        set_leaves(leaves, many, row, values);
+        set_leaves(leaves, size, row, values);
         sweep(fanins, rows, order, upto, values);
         table = with_row(table, row, values[at] % 2);
         row += 1;

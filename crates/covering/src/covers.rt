@@ -3,13 +3,16 @@ use storage::Label;
 use storage::Node;
 use storage::Numbers;
 use storage::lists::PLACES;
+use storage::lists::node_at;
 use storage::lists::size_at;
 use storage::marks::clear;
+use storage::marks::label_of;
+use storage::marks::larger;
 ghost use mathlib.Core.Path.{_≡_};
 ghost use mathlib.Core.List.{map};
-ghost use Prim.Native.Nat.{max, _<_};
+ghost use Prim.Native.Nat.{_<_};
 ghost use lib.ListN.{length, getD, take};
-ghost use Rattle.theory.specs.Lists.{greatest};
+ghost use Rattle.theory.specs.paper.Lists.{greatest};
 ghost use Rattle.covering.specs.Covers.{CoverAsked, CoverMade, isRoot, lutCount, GateMarked, GatesFit, GatesMarked, CutFits, LeavesMarked, MarksFit, DepthAsked};
 
 // A gate is marked, an input is not.
@@ -30,7 +33,7 @@ pub fn mark_gates(ids: &[u16], at: usize, many: usize, inputs: usize, marks: &mu
 {
     let mut i = 0;
     while i < many {
-        mark_gate(Node { id: ids[at + i] }, inputs, marks);
+        mark_gate(node_at(ids, at + i), inputs, marks);
         i += 1;
     }
 }
@@ -81,15 +84,9 @@ pub fn cover(
     let mut i = nodes - inputs;
     while 0 < i {
         i -= 1;
-        mark_leaves(cuts, Node { id: order[i] }, inputs, luts);
+        mark_leaves(cuts, node_at(order, i), inputs, luts);
     }
     count_marks(luts, nodes)
-}
-
-fn larger(a: u16, b: u16) -> u16
-    ensures { λ r. ⌜ r ≡ max a b ⌝ }
-{
-    if a < b { b } else { a }
 }
 
 // The depth of a cover whose roots' depths are their labels: the greatest label of the first `number` outputs.
@@ -97,11 +94,11 @@ pub fn depth(labels: &[u16], outputs: &[u16], number: usize) -> Label
     requires { ⌜ DepthAsked (now labels) (now outputs) number ⌝ }
     ensures { λ r. ⌜ r .depth ≡ greatest (map (λ v. getD (now (labels .entry)) v 0) (take number (now (outputs .entry)))) ⌝ }
 {
-    let mut best: u16 = 0;
+    let mut best = Label { depth: 0 };
     let mut i = number;
     while 0 < i {
         i -= 1;
-        best = larger(labels[outputs[i] as usize], best);
+        best = larger(label_of(labels, node_at(outputs, i)), best);
     }
-    Label { depth: best }
+    best
 }

@@ -8,7 +8,7 @@ use lib.Dec.{leb}
 use lib.Pow.{pow-add, pow-mono}
 use lib.ListN.{length, getD, take, drop}
 use Rattle.storage.proofs.Entries.{take-more}
-use Rattle.drawing.specs.Bytes.{highFirst, numberAt, someFrom}
+use Rattle.drawing.specs.paper.Bytes.{highFirst, numberAt, someFrom}
 
 high-first-more : (n : ℕ) (bs : List ℕ) (b : ℕ) → highFirst n (bs ++ (b ∷ [])) ≡ 256 * highFirst n bs + b
 unfolding highFirst

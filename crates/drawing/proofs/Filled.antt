@@ -13,11 +13,13 @@ use Rattle.drawing.specs.declared.Verdict.{Verdict}
 use Rattle.drawing.specs.declared.Verdict.the-variants.{Sound, Refused}
 use Rattle.drawing.specs.declared.filling.Ended.{Ended}
 use Rattle.drawing.specs.declared.filling.Ended.the-variants.{At, RefusedFor}
-use Rattle.drawing.specs.Limits.{mostOutputs, rowsSize}
-use Rattle.drawing.specs.Bytes.{lengthAt, valueAt, numberAt, idsAt}
-use Rattle.drawing.specs.Forms.{Formed, gatesStart}
-use Rattle.drawing.specs.Fields.{gateM, gateIds, gateAt, gateVerdict, outputVerdict, outputId}
-use Rattle.drawing.specs.Reading.{Lines, linesOf, noFanins, putGate, putGates, gatesFrom, OutputsFound, outputsFrom, noMore, withOutput}
+use Rattle.drawing.specs.paper.Limits.{mostOutputs, rowsSize}
+use Rattle.drawing.specs.paper.Bytes.{lengthAt, valueAt, numberAt, idsAt}
+use Rattle.drawing.specs.paper.Forms.{gatesStart}
+use Rattle.drawing.specs.Forms.{Formed}
+use Rattle.drawing.specs.paper.Fields.{gateM, gateIds, gateAt, gateVerdict, outputVerdict, outputId}
+use Rattle.drawing.specs.paper.Reading.{gatesFrom, OutputsFound, outputsFrom, noMore, withOutput}
+use Rattle.drawing.specs.Reading.{Lines, linesOf, noFanins, putGate, putGates}
 use Rattle.drawing.specs.Filling.{endOf, GateRead, gatesDone, endOfOutputs}
 use Rattle.drawing.proofs.Ids.{length-ids, ids-none, ids-step, one-less}
 use Rattle.drawing.proofs.SoundFields.{gate-sound, output-sound}

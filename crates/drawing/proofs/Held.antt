@@ -11,18 +11,19 @@ use borrow.Author.Tests.{lt-ltb, le-ltb, ltb-true, ltb-false}
 use lib.Dec.{ltb}
 use lib.ListN.{length, getD, take, length-map, List·getD-map, List·getD-eq-default}
 use lib.Seq.{sets, length-sets}
-use Rattle.theory.specs.Net.{Gate}
-use Rattle.theory.specs.Sound.{Bounded}
+use Rattle.theory.specs.paper.Net.{Gate}
+use Rattle.theory.specs.paper.Sound.{Bounded}
 use Rattle.storage.specs.Lists.{sizeAt, listAt, ListsIn}
 use Rattle.storage.specs.Drawings.{netIn, tablesIn}
 use Rattle.storage.proofs.Stores.{stored-at, stored-run}
 use Rattle.storage.proofs.InLists.{put-size, put-list, put-other-size, put-other}
 use Rattle.drawing.specs.declared.Verdict.{Verdict}
 use Rattle.drawing.specs.declared.Verdict.the-variants.{Sound, Refused}
-use Rattle.drawing.specs.Limits.{mostK, mostNodes}
-use Rattle.drawing.specs.Table.{GateLine, Table, noGate, lineOf, netOf, tablesOf}
-use Rattle.drawing.specs.Fields.{headK, headI, headVerdict}
-use Rattle.drawing.specs.Reading.{Lines, Arrays, found, afterHead, nodesOf, tableOf, enough, noFanins, withInputs, putGate, putGates, filled}
+use Rattle.drawing.specs.paper.Limits.{mostK, mostNodes}
+use Rattle.drawing.specs.paper.Table.{GateLine, Table, noGate, lineOf, netOf, tablesOf}
+use Rattle.drawing.specs.paper.Fields.{headK, headI, headVerdict}
+use Rattle.drawing.specs.paper.Reading.{found, afterHead, nodesOf, tableOf}
+use Rattle.drawing.specs.Reading.{Lines, Arrays, enough, noFanins, withInputs, putGate, putGates, filled}
 use Rattle.drawing.proofs.Verdicts.{not-sound}
 use Rattle.drawing.proofs.SoundTables.{SoundLine, SoundLines, table-sound}
 use Rattle.drawing.proofs.Filled.{no-fanins-length}

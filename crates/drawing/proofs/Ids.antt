@@ -7,7 +7,8 @@ use mathlib.Core.Bool.{Bool, true, false, not, Bool·not-not}
 use mathlib.Core.List.{List, [], _∷_}
 use borrow.Author.Tests.{le-leb, lt-leb}
 use lib.ListN.{length, getD}
-use Rattle.drawing.specs.Bytes.{ByteAt, Narrow, SmallAt, numberAt, idsAt, someFrom}
+use Rattle.drawing.specs.paper.Bytes.{numberAt, idsAt, someFrom}
+use Rattle.drawing.specs.Bytes.{ByteAt, Narrow, SmallAt}
 use Rattle.drawing.proofs.Digits.{number-none, number-more}
 
 byte-number : (s : List ℕ) (at r : ℕ) → at < length s → ByteAt s at r → r ≡ numberAt s at 1
@@ -33,7 +34,7 @@ small-two s at {width} {high} {low} narrow more inside b c =
 pub twice : {width : ℕ} (n : ℕ) → Narrow width → n * width ≤ n + n
 twice n narrow = omega (arith, mul-le-mul-left n (narrow .few))
 
-from-one : (left : ℕ) → 0 < left → left ≡ suc (left - 1)
+pub from-one : (left : ℕ) → 0 < left → left ≡ suc (left - 1)
 from-one left some = omega (arith, some)
 
 pub one-less : (left width : ℕ) → 0 < left → (left - 1) * width + width ≡ left * width

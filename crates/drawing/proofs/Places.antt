@@ -14,14 +14,14 @@ use Rattle.drawing.specs.declared.Refusal.{Refusal}
 use Rattle.drawing.specs.declared.Refusal.the-variants.{Outputs}
 use Rattle.drawing.specs.declared.Verdict.{Verdict}
 use Rattle.drawing.specs.declared.Verdict.the-variants.{Sound, Refused}
-use Rattle.drawing.specs.Limits.{mostOutputs, frameSize}
+use Rattle.drawing.specs.paper.Limits.{mostOutputs, frameSize}
 use Rattle.drawing.specs.Refusals.{place}
-use Rattle.drawing.specs.Rules.{Rule, _⇒_, first}
-use Rattle.drawing.specs.Bytes.{lengthAt, valueAt}
-use Rattle.drawing.specs.Forms.{narrowTable, formOf, gatesStart, leastGate, mostGate}
-use Rattle.drawing.specs.Fields.{frameRules, headRules, headVerdict, headG, gateRules, gateVerdict, gateAt, outputRules, outputVerdict, outputId}
-use Rattle.drawing.specs.Reading.{GatesFound, withGate, gatesFrom, OutputsFound, noMore, withOutput, outputsFrom, outputsAt}
-use Rattle.drawing.specs.Reading.{nodesOf, gatesOf, afterGates, afterHead, found}
+use Rattle.drawing.specs.paper.Rules.{Rule, _⇒_, first}
+use Rattle.drawing.specs.paper.Bytes.{lengthAt, valueAt}
+use Rattle.drawing.specs.paper.Forms.{narrowTable, formOf, gatesStart, leastGate, mostGate}
+use Rattle.drawing.specs.paper.Fields.{frameRules, headRules, headVerdict, headG, gateRules, gateVerdict, gateAt, outputRules, outputVerdict, outputId}
+use Rattle.drawing.specs.paper.Reading.{GatesFound, withGate, gatesFrom, OutputsFound, noMore, withOutput, outputsFrom, outputsAt}
+use Rattle.drawing.specs.paper.Reading.{nodesOf, gatesOf, afterGates, afterHead, found}
 use Rattle.drawing.proofs.Verdicts.{none-holds}
 use Rattle.drawing.proofs.SoundFields.{neither, head-sound}
 

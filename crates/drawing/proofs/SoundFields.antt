@@ -9,11 +9,12 @@ use lib.ListN.{length, getD}
 use lib.Dec.{ltb, eqb}
 use Rattle.drawing.specs.declared.TableForm.{TableForm}
 use Rattle.drawing.specs.declared.Verdict.the-variants.{Sound}
-use Rattle.drawing.specs.Limits.{leastK, mostK, leastInputs, mostInputs, version, frameSize, versionAt}
-use Rattle.drawing.specs.Bytes.{lengthAt, valueAt, someFrom}
-use Rattle.drawing.specs.Forms.{Formed, formOf, gatesStart, gateSize, leastGate, mostGate}
-use Rattle.drawing.specs.Fields.{frameRules, headRules, headVerdict, headK, headI, headG}
-use Rattle.drawing.specs.Fields.{gateRules, gateVerdict, gateM, gateIds, gateTable, outputRules, outputVerdict, outputId}
+use Rattle.drawing.specs.paper.Limits.{leastK, mostK, leastInputs, mostInputs, version, frameSize}
+use Rattle.drawing.specs.paper.Bytes.{lengthAt, valueAt, someFrom}
+use Rattle.drawing.specs.paper.Forms.{formOf, gatesStart, gateSize, leastGate, mostGate}
+use Rattle.drawing.specs.Forms.{Formed}
+use Rattle.drawing.specs.paper.Fields.{frameRules, headRules, headVerdict, headK, headI, headG}
+use Rattle.drawing.specs.paper.Fields.{gateRules, gateVerdict, gateM, gateIds, gateTable, outputRules, outputVerdict, outputId}
 use Rattle.drawing.proofs.Verdicts.{none-holds}
 use Rattle.drawing.proofs.Ids.{some-id}
 
@@ -41,7 +42,7 @@ head-sound s e =
     let nodes = headI s + headG s in
     let rules = none-holds (frameRules s 0 (form .head) false ++ headRules form s) tt e in
     let size = eqb-true (lengthAt s 0) (form .size) (not-false (eqb (lengthAt s 0) (form .size)) (rules .1 .1 .1 .1 .0)) in
-    let version = neither (not (eqb (getD s versionAt 0) version)) (rules .1 .1 .1 .1 .1 .0) in
+    let version = neither (not (eqb (getD s frameSize 0) version)) (rules .1 .1 .1 .1 .1 .0) in
     let k-least = neither (ltb (headK s) leastK) (version .1) in
     let k-most = neither (ltb mostK (headK s)) (k-least .1) in
     let inputs-least = neither (ltb (headI s) leastInputs) (k-most .1) in

@@ -15,13 +15,15 @@ use Rattle.drawing.specs.declared.Verdict.{Verdict}
 use Rattle.drawing.specs.declared.Verdict.the-variants.{Sound, Refused}
 use Rattle.drawing.specs.declared.Reading.the-variants.{Whole, TooShort}
 use Rattle.drawing.specs.declared.TableForm.{TableForm}
-use Rattle.drawing.specs.Limits.{mostOutputs}
-use Rattle.drawing.specs.Bytes.{lengthAt, valueAt, someFrom}
-use Rattle.drawing.specs.Forms.{Formed, formOf, gatesStart}
-use Rattle.drawing.specs.Table.{GateLine}
-use Rattle.drawing.specs.Fields.{headVerdict, headK, headG, gateM, gateIds, gateAt, gateVerdict, outputId, outputVerdict}
-use Rattle.drawing.specs.Reading.{GatesFound, gatesFrom, withGate, OutputsFound, outputsFrom, outputsAt, withOutput, noMore, Found}
-use Rattle.drawing.specs.Reading.{found, gatesOf, nodesOf, numbersOf, afterHead, afterGates, Arrays, enough, replyOf, reading}
+use Rattle.drawing.specs.paper.Limits.{mostOutputs}
+use Rattle.drawing.specs.paper.Bytes.{lengthAt, valueAt, someFrom}
+use Rattle.drawing.specs.paper.Forms.{formOf, gatesStart}
+use Rattle.drawing.specs.Forms.{Formed}
+use Rattle.drawing.specs.paper.Table.{GateLine}
+use Rattle.drawing.specs.paper.Fields.{headVerdict, headK, headG, gateM, gateIds, gateAt, gateVerdict, outputId, outputVerdict}
+use Rattle.drawing.specs.paper.Reading.{GatesFound, gatesFrom, withGate, OutputsFound, outputsFrom, outputsAt, withOutput, noMore, Found}
+use Rattle.drawing.specs.paper.Reading.{found, gatesOf, nodesOf, numbersOf, afterHead, afterGates}
+use Rattle.drawing.specs.Reading.{Arrays, enough, replyOf, reading}
 use Rattle.drawing.proofs.Verdicts.{not-sound}
 use Rattle.drawing.proofs.Ids.{length-ids}
 use Rattle.drawing.proofs.SoundFields.{neither, SoundHead, formed-of, head-sound, SoundGate, gate-sound, output-sound}

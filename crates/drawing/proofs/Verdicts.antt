@@ -9,10 +9,11 @@ use lib.ListN.{length}
 use Rattle.drawing.specs.declared.Refusal.{Refusal}
 use Rattle.drawing.specs.declared.Verdict.{Verdict}
 use Rattle.drawing.specs.declared.Verdict.the-variants.{Sound, Refused}
-use Rattle.drawing.specs.Limits.{frameSize}
-use Rattle.drawing.specs.Rules.{Rule, _⇒_, First, first}
-use Rattle.drawing.specs.Bytes.{lengthAt, valueAt}
-use Rattle.drawing.specs.Fields.{frameRules}
+use Rattle.drawing.specs.paper.Limits.{frameSize}
+use Rattle.drawing.specs.paper.Rules.{Rule, _⇒_, first}
+use Rattle.drawing.specs.Rules.{First}
+use Rattle.drawing.specs.paper.Bytes.{lengthAt, valueAt}
+use Rattle.drawing.specs.paper.Fields.{frameRules}
 
 -- The reply that is worked out is that of the first rule that holds, and no other is.
 pub first-is-first : {R : Type 0} (done : R) (rules : List (Rule R)) → First done rules (first done rules)

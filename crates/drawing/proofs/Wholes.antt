@@ -16,10 +16,11 @@ use Rattle.drawing.specs.declared.Reading.the-variants.{Whole, TooShort,
 use Rattle.drawing.specs.declared.filling.Ended.{Ended}
 use Rattle.drawing.specs.declared.filling.Ended.the-variants.{At, RefusedFor}
 use Rattle.drawing.specs.declared.TableForm.{TableForm}
-use Rattle.drawing.specs.Limits.{mostNodes, mostOutputs, mostPlaces}
-use Rattle.drawing.specs.Forms.{formOf, gatesStart}
-use Rattle.drawing.specs.Fields.{headVerdict, headK, headI, headG}
-use Rattle.drawing.specs.Reading.{OutputsFound, Found, found, gatesOf, outputsAt, nodesOf, numbersWith, replyOf, reading}
+use Rattle.drawing.specs.paper.Limits.{mostNodes, mostOutputs}
+use Rattle.drawing.specs.paper.Forms.{formOf, gatesStart}
+use Rattle.drawing.specs.paper.Fields.{headVerdict, headK, headI, headG}
+use Rattle.drawing.specs.paper.Reading.{OutputsFound, Found, found, gatesOf, outputsAt, nodesOf, numbersWith}
+use Rattle.drawing.specs.Reading.{replyOf, reading, mostPlaces}
 use Rattle.drawing.specs.Reading.{Lines, linesOf, Arrays, enough, noFanins, withInputs, putGates, filled, Reads}
 use Rattle.drawing.specs.Filling.{GatesDone, gatesDone, GatesRead, OutputsRead}
 use Rattle.drawing.proofs.Filled.{ended-refused, ended-at}

@@ -9,11 +9,13 @@ use Rattle.drawing.specs.declared.Verdict.{Verdict}
 use Rattle.drawing.specs.declared.Verdict.the-variants.{Sound, Refused}
 use Rattle.drawing.specs.declared.filling.Ended.{Ended}
 use Rattle.drawing.specs.declared.filling.Ended.the-variants.{At, RefusedFor}
-use Rattle.drawing.specs.Limits.{mostK}
-use Rattle.drawing.specs.Bytes.{lengthAt, valueAt}
-use Rattle.drawing.specs.Forms.{Formed, gatesStart, gateSize}
-use Rattle.drawing.specs.Fields.{gateM, gateAt, gateVerdict}
-use Rattle.drawing.specs.Reading.{Lines, gatesFrom, OutputsFound, putGate, putGates}
+use Rattle.drawing.specs.paper.Limits.{mostK}
+use Rattle.drawing.specs.paper.Bytes.{lengthAt, valueAt}
+use Rattle.drawing.specs.paper.Forms.{gatesStart, gateSize}
+use Rattle.drawing.specs.Forms.{Formed}
+use Rattle.drawing.specs.paper.Fields.{gateM, gateAt, gateVerdict}
+use Rattle.drawing.specs.paper.Reading.{gatesFrom, OutputsFound}
+use Rattle.drawing.specs.Reading.{Lines, putGate, putGates}
 
 abbrev pub endOf : Verdict → ℕ → Ended
 endOf Sound next = At next

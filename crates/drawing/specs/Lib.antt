@@ -1,9 +1,7 @@
-pub mod Limits
+pub mod paper
 pub mod Rules
 pub mod Bytes
 pub mod Forms
 pub mod Refusals
-pub mod Table
-pub mod Fields
 pub mod Reading
 pub mod Filling

@@ -5,8 +5,9 @@ ghost use mathlib.Core.Path.{_≡_};
 ghost use mathlib.Core.Bool.{not};
 ghost use Prim.Native.Nat.{_+_, _*_, _^_, _<_, _≤_};
 ghost use lib.ListN.{length};
-ghost use Rattle.drawing.specs.Limits.{mostK};
-ghost use Rattle.drawing.specs.Bytes.{ByteAt, Narrow, SmallAt, numberAt, lengthAt, valueAt, idsAt, someFrom};
+ghost use Rattle.drawing.specs.paper.Limits.{mostK};
+ghost use Rattle.drawing.specs.paper.Bytes.{numberAt, lengthAt, valueAt, idsAt, someFrom};
+ghost use Rattle.drawing.specs.Bytes.{ByteAt, Narrow, SmallAt};
 
 // The byte at a place, as a number.
 pub fn byte_at(s: &[u8], at: usize) -> usize

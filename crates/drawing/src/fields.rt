@@ -24,11 +24,11 @@ use storage::Numbers;
 ghost use mathlib.Core.Path.{_≡_};
 ghost use Prim.Native.Nat.{_+_, _≤_};
 ghost use lib.ListN.{length};
-ghost use Rattle.drawing.specs.Bytes.{lengthAt, valueAt};
-ghost use Rattle.drawing.specs.Limits.{mostK};
+ghost use Rattle.drawing.specs.paper.Bytes.{lengthAt, valueAt};
+ghost use Rattle.drawing.specs.paper.Limits.{mostK};
 ghost use Rattle.drawing.specs.Forms.{Formed};
-ghost use Rattle.drawing.specs.Rules.{first};
-ghost use Rattle.drawing.specs.Fields.{frameRules, headRules, headRuling, gateRules, gateVerdict, outputRules, outputVerdict};
+ghost use Rattle.drawing.specs.paper.Rules.{first};
+ghost use Rattle.drawing.specs.paper.Fields.{frameRules, headRules, headRuling, gateRules, gateVerdict, outputRules, outputVerdict};
 
 // The rules that every field begins with. `surplus`: the field would be an output too many.
 pub fn frame(s: &[u8], at: usize, due: usize, surplus: bool) -> Verdict

@@ -20,11 +20,14 @@ ghost use mathlib.Core.Path.{_≡_};
 ghost use Prim.Native.Nat.{_+_, _*_, _≤_, _<_};
 ghost use lib.ListN.{length};
 ghost use lib.Seq.{sets};
-ghost use Rattle.drawing.specs.Limits.{mostOutputs};
-ghost use Rattle.drawing.specs.Bytes.{Narrow, idsAt};
-ghost use Rattle.drawing.specs.Forms.{Formed, gatesStart};
-ghost use Rattle.drawing.specs.Reading.{linesOf, noFanins, putGate, outputsAt};
-ghost use Rattle.drawing.specs.Fields.{gateAt};
+ghost use Rattle.drawing.specs.paper.Limits.{mostOutputs};
+ghost use Rattle.drawing.specs.paper.Bytes.{idsAt};
+ghost use Rattle.drawing.specs.Bytes.{Narrow};
+ghost use Rattle.drawing.specs.paper.Forms.{gatesStart};
+ghost use Rattle.drawing.specs.Forms.{Formed};
+ghost use Rattle.drawing.specs.paper.Reading.{outputsAt};
+ghost use Rattle.drawing.specs.Reading.{linesOf, noFanins, putGate};
+ghost use Rattle.drawing.specs.paper.Fields.{gateAt};
 ghost use Rattle.drawing.specs.Filling.{GateFits, GateTurn, GateRead, GatesFit, GatesRead, OutputsRead};
 
 // How a run of fields ended: all sound, with the number that the function says, or refused.

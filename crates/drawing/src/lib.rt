@@ -22,9 +22,10 @@ use storage::CutSize;
 use storage::Numbers;
 ghost use mathlib.Core.Path.{_≡_};
 ghost use mathlib.Core.Bool.{true};
-ghost use Rattle.drawing.specs.Forms.{narrowTable, formOf};
-ghost use Rattle.drawing.specs.Fields.{headVerdict};
-ghost use Rattle.drawing.specs.Reading.{arraysOf, enough, numbersWith, Reads};
+ghost use Rattle.drawing.specs.paper.Forms.{narrowTable, formOf};
+ghost use Rattle.drawing.specs.paper.Fields.{headVerdict};
+ghost use Rattle.drawing.specs.paper.Reading.{numbersWith};
+ghost use Rattle.drawing.specs.Reading.{arraysOf, enough, Reads};
 
 // The form of a gate table: in how many bytes it writes an id, and G; the tags of its fields; how many bytes a head's value has; and the
 // least and the most nodes.
@@ -62,7 +63,7 @@ pub enum Reading {
     TooShort,
 }
 
-// Document 01's form.
+// Document 01's form: ids of one byte.
 pub fn narrow_table() -> TableForm
     ensures { λ r. ⌜ r ≡ narrowTable ⌝ }
 {

@@ -6,8 +6,8 @@ use mathlib.Core.Path.{_≡_, refl, sym, ap, subst, _∙_}
 use mathlib.Core.List.{List}
 use lib.ListN.{length, take, List·getD-eq-default}
 use lib.Seq.{sets, getD-take, length-take-le}
-use Rattle.theory.specs.Sound.{Ranked}
-use Rattle.theory.specs.Evidence.{Evidence, LeastCut}
+use Rattle.theory.specs.paper.Sound.{Ranked}
+use Rattle.theory.specs.paper.Evidence.{Evidence, LeastCut}
 use Rattle.theory.proofs.Walks.{met-node}
 use Rattle.storage.specs.declared.CutSize.{CutSize}
 use Rattle.storage.specs.Drawings.{netIn, Drawn, Ordered}
@@ -54,15 +54,15 @@ module _ {inputs nodes k : ℕ} {fanins roles links : List ℕ} {r : Outcome} (r
     where
       by-end : Ran inputs nodes k fanins roles r links → FlowIn inputs nodes fanins roles links (suc k)
       by-end (Ran.many _ flow) = flow
-      by-end (Ran.full number last f _ _ _ _) = absurd (let z : _≡_ {A = ℕ} 0 1 = cc in omega arith)
+      by-end (Ran.full size last f _ _ _ _) = absurd (let z : _≡_ {A = ℕ} 0 1 = cc in omega arith)
 
-  pub ran-full : {number : ℕ} → r ≡ Full number → RanFull inputs nodes k fanins roles links number
-  ran-full {number} e = by-end ran
+  pub ran-full : {size : CutSize} → r ≡ Full size → RanFull inputs nodes k fanins roles links (size .leaves)
+  ran-full {size} e = by-end ran
     where
-      by-end : Ran inputs nodes k fanins roles r links → RanFull inputs nodes k fanins roles links number
+      by-end : Ran inputs nodes k fanins roles r links → RanFull inputs nodes k fanins roles links (size .leaves)
       by-end (Ran.many f _) = absurd (let z : _≡_ {A = ℕ} 0 1 = cc in omega arith)
       by-end (Ran.full m last f few flow searched settled) =
-          let same : m ≡ number = cc in
+          let same : m .leaves ≡ size .leaves = cc in
           record {
             last = last;
             few = omega arith;

@@ -1,18 +1,18 @@
 -- Augmenting: one step back from a loose node keeps a flow with one path more whose one start is loose, and the number of its in-state falls. Only
 -- links that were read are stored to: what is found earlier is as it was when the search ran.
-use Prim.Native.Nat.{ℕ, suc, _*_, _-_, _≤_, _<_}
+use Prim.Native.Nat.{ℕ, suc, _*_, _≤_, _<_}
 use native.Mathlib.Decide.{ℕ-discrete}
 use native.Mathlib.Omega.{arith}
 use mathlib.Core.Path.{_≡_, refl, sym, ap, subst, _∙_}
 use mathlib.Core.Logic.{_⊎_, inl, inr, ⊎-elim}
 use mathlib.Core.List.{List, List·Memᴰ}
 use lib.ListN.{length}
-use Rattle.theory.specs.Net.{Net}
+use Rattle.theory.specs.paper.Net.{Net}
 use Rattle.storage.specs.Drawings.{netIn}
 use Rattle.storage.specs.Entries.{Beyond, Upd, at}
 use Rattle.storage.specs.Roles.{areaIn, endsIn}
 use Rattle.storage.proofs.Clears.{beyond-same, beyond-then}
-use Rattle.flow.specs.Links.{nextIn, prevIn, insIn, outsIn, parentIn}
+use Rattle.flow.specs.Links.{nextIn, prevIn, insIn, outsIn, parentIn, edgeOfFlow}
 use Rattle.flow.specs.Flow.{Linked, Carries, Open, WayIn, WayOut, Freed}
 use Rattle.flow.specs.Cells.{CellIn, PathsKept, StatesKept}
 use Rattle.flow.specs.Turns.{Ground, Searched}
@@ -36,14 +36,6 @@ freed-found {found-in = found-in} {loose = loose} (WayOut.back g e some less) (i
 out-no-sink : {next found-in : ℕ → ℕ} {v number : ℕ} → WayOut next found-in v number → next v ≡ 1 → ⊥
 out-no-sink (WayOut.through e _ _) sink = omega arith
 out-no-sink (WayOut.back g e _ _) sink = omega arith
-
--- a link that is neither none nor the sink leads to a node
-pub no-sink-leads : {c to : ℕ} → (c ≡ 1 → ⊥) → to ≡ c → (to ≡ 0 → ⊥) → c ≡ suc (suc (to - 2))
-no-sink-leads {c} {to} no-sink e some = by-sink (ℕ-discrete to 1)
-  where
-    by-sink : Dec (to ≡ 1) → c ≡ suc (suc (to - 2))
-    by-sink (yes sink) = absurd (no-sink (sym e ∙ sink))
-    by-sink (no apart) = omega arith
 
 -- Only v's link changes
 
@@ -280,10 +272,10 @@ module _ {inputs nodes : ℕ} {fanins roles : List ℕ} (ground : Ground inputs 
         }
 
     -- a parent that is not the source is a node's out-state
-    pub parent-node : (from ≡ 1 → ⊥) → from ≡ suc (suc (from - 2))
+    pub parent-node : (from ≡ edgeOfFlow → ⊥) → 2 ≤ from
     parent-node apart = by-way way
       where
-        by-way : WayIn inputs (netIn inputs nodes fanins .fanins loose) was outs loose from (ins loose) → from ≡ suc (suc (from - 2))
+        by-way : WayIn inputs (netIn inputs nodes fanins .fanins loose) was outs loose from (ins loose) → 2 ≤ from
         by-way (WayIn.source low e) = absurd (apart e)
         by-way (WayIn.own e _ _ _) = omega arith
         by-way (WayIn.fanin u e _ _ _) = omega arith

@@ -6,10 +6,11 @@ use native.Mathlib.Omega.{arith}
 use mathlib.Core.Path.{_≡_}
 use mathlib.Core.Logic.{_⊎_, inl, inr, ⊎-elim}
 use mathlib.Core.List.{List, [], List·Memᴰ}
-use Rattle.theory.specs.Net.{Net, Gate, Input}
-use Rattle.theory.specs.Sound.{Bounded, Ranked}
-use Rattle.theory.specs.Walk.{Walked, Met, Behind}
-use Rattle.theory.specs.Evidence.{peak, InD, Outside, NeverFalls}
+use Rattle.theory.specs.paper.Net.{Net, Gate, Input}
+use Rattle.theory.specs.paper.Sound.{Bounded, Ranked}
+use Rattle.theory.specs.paper.Walk.{Walked, Met, Behind}
+use Rattle.theory.specs.paper.Evidence.{peak, InD, Outside}
+use Rattle.theory.specs.Lines.{NeverFalls}
 use Rattle.theory.proofs.Walks.{Stops, behind-walked, leaf-or-walked, no-loop, gate-no-input, decide-gate, reader-is-gate, met-node, cone-of-walked}
 use Rattle.theory.proofs.Duality.{behind-low, d-is-walked}
 use Rattle.area.specs.Area.{InArea, IsEnd}

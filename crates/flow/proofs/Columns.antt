@@ -1,7 +1,7 @@
 -- Cells and columns of the links: a store and a clear in terms of columns, and what is kept by them.
 use Prim.Native.Nat.{ℕ, suc, _+_, _*_, _-_, _≤_, _<_}
 use native.Mathlib.Nat.{mul-le-mul-right}
-use native.Mathlib.Numerals.{add-one, add-two}
+use native.Mathlib.Numerals.{add-one}
 use native.Mathlib.Omega.{arith}
 use mathlib.Core.Path.{_≡_, refl, sym, subst, _∙_}
 use mathlib.Core.Logic.{_⊎_, inl, inr}
@@ -59,8 +59,8 @@ rest-entry {nodes} {c} {v} {links} cell =
 pub stored-next : {nodes c v n : ℕ} {l m : List ℕ} → Stored nodes c v (n + 1) l m → Stored nodes c v (suc n) l m
 stored-next {nodes} {c} {v} {n} {l} {m} s = subst (λ (x : ℕ). Stored nodes c v x l m) (add-one n) s
 
-pub stored-link : {nodes c v w : ℕ} {l m : List ℕ} → Stored nodes c v (w + 2) l m → Stored nodes c v (suc (suc w)) l m
-stored-link {nodes} {c} {v} {w} {l} {m} s = subst (λ (x : ℕ). Stored nodes c v x l m) (add-two w) s
+pub stored-as : {nodes c v x y : ℕ} {l m : List ℕ} → x ≡ y → Stored nodes c v x l m → Stored nodes c v y l m
+stored-as {nodes} {c} {v} {l = l} {m = m} e s = subst (λ (z : ℕ). Stored nodes c v z l m) e s
 
 -- A clear
 

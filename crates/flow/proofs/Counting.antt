@@ -8,7 +8,7 @@ use mathlib.Core.Bool.{Bool, cond}
 use mathlib.Core.List.{List·Memᴰ}
 use lib.Dec.{eqb}
 use borrow.Author.Tests.{eq-eqb, ne-eqb}
-use Rattle.theory.specs.Net.{Net}
+use Rattle.theory.specs.paper.Net.{Net}
 use Rattle.flow.specs.Numbers.{sum}
 use Rattle.flow.specs.Flow.{one, Linked, Carries}
 use Rattle.flow.proofs.Sums.{sum-same, sum-at-most, sum-tight, sum-add, sum-zero, sum-pick, sum-swap}

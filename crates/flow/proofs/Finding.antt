@@ -8,7 +8,7 @@ use mathlib.Core.Bool.{Bool, true}
 use mathlib.Core.Logic.{_⊎_, inl, inr}
 use mathlib.Core.List.{List, List·Memᴰ}
 use lib.ListN.{List·getD-eq-default}
-use Rattle.theory.specs.Net.{Net}
+use Rattle.theory.specs.paper.Net.{Net}
 use Rattle.storage.specs.Drawings.{netIn}
 use Rattle.storage.specs.Entries.{Upd, at}
 use Rattle.storage.specs.Roles.{areaBit, areaIn}

@@ -7,8 +7,8 @@ use mathlib.Core.Path.{_≡_, refl, sym, ap, subst, _∙_}
 use mathlib.Core.List.{List, [], _∷_, map, List·Memᴰ, List·Memᴰ·head, List·Memᴰ·tail, Memᴰ·of-map}
 use lib.Dec.{eqb}
 use borrow.Author.Tests.{eqb-true, eq-eqb}
-use Rattle.theory.specs.Net.{Net}
-use Rattle.theory.specs.Sound.{Ranked}
+use Rattle.theory.specs.paper.Net.{Net}
+use Rattle.theory.specs.paper.Sound.{Ranked}
 use Rattle.flow.specs.Numbers.{those}
 use Rattle.flow.specs.Paths.{onward, follow, Links}
 use Rattle.flow.proofs.Sums.{those-hold, those-all}

@@ -8,10 +8,11 @@ use mathlib.Core.Bool.{Bool, true, false, cond}
 use mathlib.Core.Logic.{_⊎_, inl, inr, ⊎-elim}
 use mathlib.Core.List.{List, List·Memᴰ}
 use lib.ListN.{length}
-use Rattle.theory.specs.Net.{Net, Gate, Input}
-use Rattle.theory.specs.Sound.{Bounded, Ranked}
-use Rattle.theory.specs.Walk.{Walked, Met, Cut}
-use Rattle.theory.specs.Evidence.{InD, Outside, LeastCut, NeverFalls}
+use Rattle.theory.specs.paper.Net.{Net, Gate, Input}
+use Rattle.theory.specs.paper.Sound.{Bounded, Ranked}
+use Rattle.theory.specs.paper.Walk.{Walked, Met, Cut}
+use Rattle.theory.specs.paper.Evidence.{InD, Outside, LeastCut}
+use Rattle.theory.specs.Lines.{NeverFalls}
 use Rattle.theory.proofs.Decisions.{decide-member}
 use Rattle.theory.proofs.Members.{member-counts}
 use Rattle.theory.proofs.Ranks.{common-bound}

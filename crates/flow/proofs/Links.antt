@@ -7,7 +7,7 @@ use mathlib.Core.Path.{_≡_, refl, sym, ap, subst, _∙_}
 use mathlib.Core.Logic.{_⊎_, inl, inr, ⊎-elim}
 use mathlib.Core.List.{List·Memᴰ}
 use Rattle.storage.specs.Entries.{Upd}
-use Rattle.theory.specs.Net.{Net}
+use Rattle.theory.specs.paper.Net.{Net}
 use Rattle.flow.specs.Numbers.{sum}
 use Rattle.flow.specs.Flow.{one, Linked, Freed}
 use Rattle.flow.proofs.Sums.{sum-more}

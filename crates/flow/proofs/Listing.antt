@@ -11,7 +11,7 @@ use mathlib.Core.List.{List, [], _∷_, _++_, map, append-assoc, append-nil}
 use lib.ListN.{length, getD, set, length-append, length-map, List·getD-append, List·getD-eq-default}
 use lib.Seq.{sets, length-sets, getD-append-seam}
 use lib.Dec.{eqb}
-use Rattle.theory.specs.Net.{Net}
+use Rattle.theory.specs.paper.Net.{Net}
 use Rattle.storage.specs.declared.Node.{Node}
 use Rattle.storage.specs.Entries.{at, Beyond}
 use Rattle.storage.proofs.Stores.{sets-more, stored-beside}
@@ -20,7 +20,7 @@ use Rattle.storage.proofs.InColumns.{column-sets}
 use Rattle.flow.specs.declared.reading.Start.{Start}
 use Rattle.flow.specs.declared.reading.Start.the-variants.{At, Missing}
 use Rattle.flow.specs.Numbers.{those}
-use Rattle.flow.specs.Links.{nextIn, prevIn}
+use Rattle.flow.specs.Links.{nextIn, prevIn, linkTo}
 use Rattle.flow.specs.Paths.{onward, follow, startsIn, pathsIn, LinksIn}
 use Rattle.flow.specs.Reads.{StartRead, Listed, PathRead}
 use Rattle.flow.proofs.Sums.{those-yes}
@@ -159,11 +159,6 @@ module _ {nodes first : ℕ} {links₀ links : List ℕ} {v j : ℕ} (f : Follow
     onward-none (suc zero) from less = refl
     onward-none (suc (suc g)) from less = absurd (omega arith)
 
-    onward-some : (c : ℕ) (from : ℕ → List ℕ) → 2 ≤ c → onward c from ≡ from (c - 2)
-    onward-some zero from high = absurd (omega arith)
-    onward-some (suc zero) from high = absurd (omega arith)
-    onward-some (suc (suc g)) from high = ap from (omega arith)
-
     module _ {to : ℕ} (e : to ≡ at (nextIn nodes (set links (2 * nodes + j) v)) v) where
       link : to ≡ next v
       link = e ∙ ap (λ (l : List ℕ). at l v) next-kept
@@ -174,8 +169,8 @@ module _ {nodes first : ℕ} {links₀ links : List ℕ} {v j : ℕ} (f : Follow
           split ∙ ap (λ (l : List ℕ). more ++ l) (onward-none (next v) (follow next (nodes - (j + 1))) (omega (arith, link))) ∙ append-nil more in
           record { written = stored ∙ ap (sets links₀ (2 * nodes)) (sym all); count = counted ∙ ap length (sym all) }
 
-      pub follow-turn : 2 ≤ to → Following nodes first links₀ (set links (2 * nodes + j) v) (to - 2) (j + 1)
-      follow-turn high =
+      pub follow-turn : {g : ℕ} → to ≡ linkTo g → Following nodes first links₀ (set links (2 * nodes + j) v) g (j + 1)
+      follow-turn {g} leads =
           record {
             done = more;
             count = counted;
@@ -183,7 +178,7 @@ module _ {nodes first : ℕ} {links₀ links : List ℕ} {v j : ℕ} (f : Follow
             same = stored;
             rest = split
                 ∙ ap (λ (l : List ℕ). more ++ l)
-                (onward-some (next v) (follow next (nodes - (j + 1))) (omega (arith, link)) ∙ ap (λ (c : ℕ). follow next (nodes - (j + 1)) (c - 2)) (sym link));
+                (ap (λ (c : ℕ). onward c (follow next (nodes - (j + 1)))) (sym link ∙ leads));
           }
 
 -- One of the paths

@@ -14,8 +14,8 @@ use borrow.Author.Tests.{eq-eqb, ne-eqb, lt-ltb, le-ltb}
 use Rattle.storage.specs.Drawings.{netIn, Ordered}
 use Rattle.storage.proofs.Drawings.{fanins-out}
 pub use Rattle.storage.proofs.Entries.{member-at as place-member}
-use Rattle.theory.specs.Net.{Net, Gate, Input}
-use Rattle.theory.specs.Sound.{Bounded, Ranked}
+use Rattle.theory.specs.paper.Net.{Net, Gate, Input}
+use Rattle.theory.specs.paper.Sound.{Bounded, Ranked}
 use Rattle.theory.proofs.Walks.{input-or-gate, reader-is-gate, fanin-node}
 
 -- the first place at which v stands

@@ -9,10 +9,10 @@ use mathlib.Core.List.{List, [], _∷_, map, List·Memᴰ, List·Memᴰ·head, L
 use lib.ListN.{length, length-map}
 use lib.Dec.{eqb}
 use borrow.Author.Tests.{eqb-true, ne-eqb}
-use Rattle.theory.specs.Net.{Net}
-use Rattle.theory.specs.Sound.{Ranked}
-use Rattle.theory.specs.Lists.{NoRepeats}
-use Rattle.theory.specs.Evidence.{Run, TruePath, joined, Evidence}
+use Rattle.theory.specs.paper.Net.{Net}
+use Rattle.theory.specs.paper.Sound.{Ranked}
+use Rattle.theory.specs.paper.Lists.{NoRepeats}
+use Rattle.theory.specs.paper.Evidence.{Run, TruePath, joined, Evidence}
 use Rattle.theory.proofs.Members.{rising-no-repeats, no-repeats-join}
 use Rattle.flow.specs.Numbers.{those}
 use Rattle.flow.specs.Flow.{one, Linked, Carries}

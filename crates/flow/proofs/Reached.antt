@@ -6,7 +6,7 @@ use mathlib.Core.Path.{_≡_, refl, sym, ap, _∙_}
 use mathlib.Core.Bool.{cond}
 use mathlib.Core.Logic.{_⊎_, inl, inr, ⊎-elim}
 use mathlib.Core.List.{List·Memᴰ}
-use Rattle.theory.specs.Net.{Net}
+use Rattle.theory.specs.paper.Net.{Net}
 use Rattle.flow.specs.Numbers.{sum}
 use Rattle.flow.specs.Flow.{isLeaf, Linked, Carries, WayIn, WayOut, Found, Settled}
 use Rattle.flow.proofs.Links.{used-come}

@@ -7,7 +7,7 @@ use mathlib.Core.Bool.{Bool, true, false}
 use mathlib.Core.List.{List, [], _∷_, _++_}
 use lib.ListN.{length, set, length-append}
 use lib.Seq.{sets, length-sets}
-use Rattle.theory.specs.Net.{Net}
+use Rattle.theory.specs.paper.Net.{Net}
 use Rattle.storage.specs.Drawings.{netIn}
 use Rattle.storage.specs.Entries.{Beyond}
 use Rattle.storage.proofs.Clears.{beyond-same, beyond-then}
@@ -130,17 +130,24 @@ pub none-written : (nodes : ℕ) (links cut : List ℕ) → Written nodes links 
 unfolding those
 none-written nodes links cut = record { passed = omega arith; count = refl; same = refl }
 
--- tests of a leaf, as they are read
-pub no-leaf-in : (c d : ℕ) → c ≡ 0 → isLeaf c d ≡ false
-no-leaf-in zero d e = refl
-no-leaf-in (suc c) d e = absurd (omega arith)
+-- tests of a leaf, by what is read of its states
+pub not-entered : {c s : ℕ} (t : ℕ) → c ≡ s → c ≡ 0 → isLeaf s t ≡ false
+not-entered {s = zero} t read none = refl
+not-entered {s = suc s} t read none = absurd (omega arith)
 
-pub no-leaf-out : (c d : ℕ) → (d ≡ 0 → ⊥) → isLeaf c d ≡ false
-no-leaf-out zero d some = refl
-no-leaf-out (suc c) zero some = absurd (some refl)
-no-leaf-out (suc c) (suc d) some = refl
+module _ {c s d t : ℕ} (in-read : c ≡ s) (out-read : d ≡ t) where
+  pub was-left : (d ≡ 0 → ⊥) → isLeaf s t ≡ false
+  was-left some = told s t (λ none. some (out-read ∙ none))
+    where
+      told : (s t : ℕ) → (t ≡ 0 → ⊥) → isLeaf s t ≡ false
+      told zero t some = refl
+      told (suc s) zero some = absurd (some refl)
+      told (suc s) (suc t) some = refl
 
-pub is-leaf : (c d : ℕ) → (c ≡ 0 → ⊥) → d ≡ 0 → isLeaf c d ≡ true
-is-leaf zero d some none = absurd (some refl)
-is-leaf (suc c) zero some none = refl
-is-leaf (suc c) (suc d) some none = absurd (omega arith)
+  pub is-leaf : (c ≡ 0 → ⊥) → d ≡ 0 → isLeaf s t ≡ true
+  is-leaf some none = told s t (λ zero. some (in-read ∙ zero)) (sym out-read ∙ none)
+    where
+      told : (s t : ℕ) → (s ≡ 0 → ⊥) → t ≡ 0 → isLeaf s t ≡ true
+      told zero t some none = absurd (some refl)
+      told (suc s) zero some none = refl
+      told (suc s) (suc t) some none = absurd (omega arith)

@@ -10,7 +10,7 @@ use mathlib.Core.Logic.{⊎-elim}
 use mathlib.Core.List.{List, [], _∷_, _++_, append-nil, List·Memᴰ, List·Memᴰ·head, List·Memᴰ·tail, List·Memᴰ·not-nil, List·Memᴰ·append-cases}
 use mathlib.Core.List.{List·Memᴰ·eq-of-singleton, Memᴰ·append-left, Memᴰ·append-right}
 use lib.ListN.{length, length-append}
-use Rattle.theory.specs.Lists.{Rising}
+use Rattle.theory.specs.paper.Lists.{Rising}
 use Rattle.theory.proofs.Members.{no-longer, rising-no-repeats}
 use Rattle.flow.specs.Numbers.{sum, those}
 

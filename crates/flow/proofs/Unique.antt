@@ -6,7 +6,7 @@ use mathlib.Core.Path.{_≡_, sym, ap, _∙_}
 use mathlib.Core.List.{List}
 use lib.ListN.{length, take}
 use lib.Seq.{sets, ext-getD}
-use Rattle.theory.specs.Evidence.{Evidence, LeastCut}
+use Rattle.theory.specs.paper.Evidence.{Evidence, LeastCut}
 use Rattle.theory.proofs.Walks.{cut-stops}
 use Rattle.theory.proofs.Cuts.{same-cone-same-cut}
 use Rattle.theory.proofs.Duality.{evidence-is-tight}

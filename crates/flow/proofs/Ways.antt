@@ -1,5 +1,5 @@
 -- The ways into and out of a node, as the code reads them.
-use Prim.Native.Nat.{ℕ, zero, suc, _-_, _≤_, _<_}
+use Prim.Native.Nat.{ℕ, zero, suc, _≤_, _<_}
 use native.Mathlib.Omega.{arith}
 use mathlib.Core.Path.{_≡_, refl, sym, ap, subst, _∙_}
 use mathlib.Core.Bool.{Bool, true, false, not}
@@ -11,6 +11,7 @@ use Rattle.storage.specs.Entries.{at}
 use Rattle.storage.specs.Lists.{sizeAt, entryAt, listAt}
 use Rattle.storage.proofs.InLists.{list-member, list-place}
 use Rattle.storage.specs.Drawings.{Fed}
+use Rattle.flow.specs.Links.{linkTo}
 use Rattle.flow.specs.Turns.{FaninFound, NoWayIn, NoWayOut, Entered, Left}
 
 -- a test for 0
@@ -30,16 +31,16 @@ left-through next ins v x idle e =
 pub left-sink : (next ins : List ℕ) (v : ℕ) → at next v ≡ 1 → Left next ins v false
 left-sink next ins v e = Left.none refl (record { through = λ f. absurd (omega arith); back = λ g f. absurd (omega arith) })
 
-pub left-back : (next ins : List ℕ) (v to x : ℕ) → to ≡ at next v → 2 ≤ to → x ≡ at ins (to - 2) → Left next ins v (not (eqb x 0))
-left-back next ins v to x e high f =
+pub left-back : (next ins : List ℕ) (v g x : ℕ) → at next v ≡ linkTo g → x ≡ at ins g → Left next ins v (not (eqb x 0))
+left-back next ins v g x leads f =
     ⊎-elim
     (λ (h : (x ≡ 0) × (not (eqb x 0) ≡ false)).
     Left.none (h .1)
-    (record { through = λ idle. absurd (omega arith); back = λ g goes. omega (arith, h .0, ap (at ins) (same g goes)) }))
-    (λ (h : (1 ≤ x) × (not (eqb x 0) ≡ true)). Left.back (to - 2) (h .1) (omega arith) (omega (arith, h .0))) (nonzero x)
+    (record { through = λ idle. absurd (omega arith); back = λ u goes. omega (arith, h .0, ap (at ins) (same u goes)) }))
+    (λ (h : (1 ≤ x) × (not (eqb x 0) ≡ true)). Left.back g (h .1) leads (omega (arith, h .0))) (nonzero x)
   where
-    same : (g : ℕ) → at next v ≡ suc (suc g) → g ≡ to - 2
-    same g goes = omega arith
+    same : (u : ℕ) → at next v ≡ linkTo u → u ≡ g
+    same u goes = omega arith
 
 -- In
 

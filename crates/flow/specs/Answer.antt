@@ -4,8 +4,9 @@ use mathlib.Core.Path.{_≡_}
 use mathlib.Core.List.{List}
 use lib.ListN.{length, replicate}
 use lib.Seq.{sets}
-use Rattle.theory.specs.Net.{Gate}
-use Rattle.theory.specs.Evidence.{Evidence, LeastCut, NeverFalls}
+use Rattle.theory.specs.paper.Net.{Gate}
+use Rattle.theory.specs.paper.Evidence.{Evidence, LeastCut}
+use Rattle.theory.specs.Lines.{NeverFalls}
 use Rattle.storage.specs.declared.CutSize.{CutSize}
 use Rattle.storage.specs.Drawings.{netIn, Arranged}
 use Rattle.storage.specs.Entries.{cleared, Beyond}

@@ -1,7 +1,7 @@
 -- The marks on which the flow works: what lies behind t outside D, and which of these nodes feed D.
 use Prim.Native.Nat.{ℕ, _<_}
 use mathlib.Core.Path.{_≡_}
-use Rattle.theory.specs.Net.{Net}
+use Rattle.theory.specs.paper.Net.{Net}
 use Rattle.area.specs.Area.{InArea, IsEnd}
 
 -- `area` and `ends` are 1 exactly there.

@@ -33,7 +33,7 @@ pub data Stepped (next prev : ℕ → ℕ) (loose v r : ℕ) (next′ prev′ : 
   linked : (m q : ℕ → ℕ) → (v ≡ loose → ⊥) → Freed next prev v r m q → Upd m v (linkTo loose) next′ → Upd q loose (linkTo v) prev′ →
       Stepped next prev loose v r next′ prev′
 
--- The same over the array, where what the search found is as before.
+-- Over the array v's out-state was freed, or one step back was taken, and what the search found is as before.
 pub record FreedIn (nodes : ℕ) (links : List ℕ) (v r : ℕ) (links′ : List ℕ) : Type 0 where
   pub stored : Freed (at (nextIn nodes links)) (at (prevIn nodes links)) v r (at (nextIn nodes links′)) (at (prevIn nodes links′))
   pub kept : StatesKept nodes links links′

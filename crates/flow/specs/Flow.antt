@@ -6,7 +6,7 @@ use mathlib.Core.Bool.{Bool, true, false}
 use mathlib.Core.Logic.{_⊎_}
 use mathlib.Core.List.{List, List·Memᴰ}
 use Rattle.storage.specs.Entries.{Upd}
-use Rattle.theory.specs.Net.{Net}
+use Rattle.theory.specs.paper.Net.{Net}
 use Rattle.flow.specs.Numbers.{sum}
 use Rattle.flow.specs.Links.{noLink, edgeOfFlow, linkTo}
 
@@ -37,7 +37,7 @@ pub record Carries (net : Net) (area ends next prev : ℕ → ℕ) (number : ℕ
   pub starts : (v : ℕ) → prev v ≡ edgeOfFlow → v < net .inputs
   pub paths : sum (λ v. one (prev v)) (net .nodes) ≡ number
 
--- The same, but one path starts at a loose node.
+-- A flow in which one path starts at a loose node, and the others at inputs.
 pub record Open (net : Net) (area ends next prev : ℕ → ℕ) (number loose : ℕ) : Type 0 where
   pub linked : Linked net area next prev
   pub stops : (v : ℕ) → next v ≡ edgeOfFlow → ends v ≡ 1

@@ -4,6 +4,7 @@ use mathlib.Core.Path.{_≡_}
 use mathlib.Core.Bool.{Bool, true, false}
 use mathlib.Core.List.{List}
 use lib.ListN.{length, set}
+use Rattle.storage.specs.declared.CutSize.{CutSize}
 use Rattle.storage.specs.Entries.{at}
 use Rattle.flow.specs.declared.rounds.Outcome.{Outcome}
 use Rattle.flow.specs.declared.rounds.Outcome.the-variants.{Many, Full}
@@ -22,7 +23,7 @@ pub record RunAsked (inputs nodes k : ℕ) (fanins order roles links : List ℕ)
 -- K + 1 paths were found, or the flow is full with fewer, and all is settled.
 pub data Ran (inputs nodes k : ℕ) (fanins roles : List ℕ) (r : Outcome) (links : List ℕ) : Type 0 where
   many : r ≡ Many → FlowIn inputs nodes fanins roles links (suc k) → Ran inputs nodes k fanins roles r links
-  full : (number last : ℕ) → r ≡ Full number → number ≤ k → FlowIn inputs nodes fanins roles links number →
+  full : (size : CutSize) (last : ℕ) → r ≡ Full size → size .leaves ≤ k → FlowIn inputs nodes fanins roles links (size .leaves) →
       Searched inputs nodes fanins roles links last → AllSettled inputs nodes fanins roles links → Ran inputs nodes k fanins roles r links
 
 -- whether v is one of the leaves that a search without an end leaves, and all of them

@@ -56,13 +56,13 @@ pub data VisitedIn (inputs nodes : ℕ) (fanins links : List ℕ) (v number r : 
       Entered inputs fanins (nextIn nodes links) (outsIn nodes links) v from → Stored nodes 2 v (suc number) links between →
       Stored nodes 4 v from between links′ → VisitedIn inputs nodes fanins links v number r links′
 
--- the same of an input, which the source reaches
+-- an input's in-state was looked at: the source reaches it, so it has a number or gets the next
 pub data InputEntered (nodes : ℕ) (links : List ℕ) (v number r : ℕ) (links′ : List ℕ) : Type 0 where
   stays : r ≡ number → links′ ≡ links → 1 ≤ at (insIn nodes links) v → InputEntered nodes links v number r links′
   new : (between : List ℕ) → r ≡ suc number → at (insIn nodes links) v ≡ 0 → Stored nodes 2 v (suc number) links between →
       Stored nodes 4 v edgeOfFlow between links′ → InputEntered nodes links v number r links′
 
--- and of v's out-state
+-- v's out-state was looked at: it stays as it is, or gets the next number
 pub data VisitedOut (nodes : ℕ) (links : List ℕ) (v number r : ℕ) (links′ : List ℕ) : Type 0 where
   stays : r ≡ number → links′ ≡ links → (1 ≤ at (outsIn nodes links) v) ⊎ NoWayOut (nextIn nodes links) (insIn nodes links) v →
       VisitedOut nodes links v number r links′

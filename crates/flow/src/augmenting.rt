@@ -1,11 +1,12 @@
 // One more path: from the end that the search reached, back along the way on which it was reached, links are stored and taken away.
 use crate::cells::EDGE_OF_FLOW;
-use crate::cells::FIRST_NODE;
 use crate::cells::NEXT;
 use crate::cells::NO_LINK;
 use crate::cells::PARENT;
 use crate::cells::PREV;
 use crate::cells::at;
+use crate::cells::link_to;
+use crate::cells::node_of;
 use crate::cells::put;
 use crate::searching::Sought;
 use crate::searching::search;
@@ -26,9 +27,7 @@ fn free(nodes: usize, links: &mut [u16], v: Node) -> Node
         put(links, nodes, PREV, v, EDGE_OF_FLOW);
         return v;
     }
-    let g = Node {
-        id: to - FIRST_NODE,
-    };
+    let g = node_of(to);
     put(links, nodes, PREV, g, EDGE_OF_FLOW);
     g
 }
@@ -44,8 +43,8 @@ fn step_back(nodes: usize, links: &mut [u16], loose: Node, v: Node) -> Node
         put(links, nodes, PREV, loose, NO_LINK);
         return freed;
     }
-    put(links, nodes, NEXT, v, loose.id + FIRST_NODE);
-    put(links, nodes, PREV, loose, v.id + FIRST_NODE);
+    put(links, nodes, NEXT, v, link_to(loose));
+    put(links, nodes, PREV, loose, link_to(v));
     freed
 }
 
@@ -65,16 +64,11 @@ pub fn add_path(
     let Sought::End(end) = sought else {
         return false;
     };
-    let first = free(numbers.nodes, links, end);
-    let mut loose = first.id;
-    let mut from = at(links, numbers.nodes, PARENT, first);
+    let mut loose = free(numbers.nodes, links, end);
+    let mut from = at(links, numbers.nodes, PARENT, loose);
     while from != EDGE_OF_FLOW {
-        let v = Node {
-            id: from - FIRST_NODE,
-        };
-        let freed = step_back(numbers.nodes, links, Node { id: loose }, v);
-        loose = freed.id;
-        from = at(links, numbers.nodes, PARENT, freed);
+        loose = step_back(numbers.nodes, links, loose, node_of(from));
+        from = at(links, numbers.nodes, PARENT, loose);
     }
     true
 }

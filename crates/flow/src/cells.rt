@@ -2,8 +2,10 @@
 use storage::Node;
 use storage::columns;
 ghost use mathlib.Core.Path.{_≡_};
+ghost use Prim.Native.Nat.{_≤_, _<_};
 ghost use lib.ListN.{getD};
 ghost use Rattle.storage.specs.Columns.{column as columnOf};
+ghost use Rattle.flow.specs.Links.{linkTo};
 ghost use Rattle.flow.specs.Cells.{CellIn, Stored, ColumnsIn, Cleared};
 
 // The columns: where paths lead, and what the search for one more found.
@@ -26,6 +28,23 @@ pub const FIRST_NODE: u16 = 2;
 
 // A state that was not found has this for its number.
 pub const NOT_FOUND: u16 = 0;
+
+// The node that a link leads to, and back.
+pub fn node_of(link: u16) -> Node
+    requires { ⌜ 2 ≤ link ⌝ }
+    ensures { λ r. ⌜ link ≡ linkTo (r .id) ⌝ }
+{
+    Node {
+        id: link - FIRST_NODE,
+    }
+}
+
+pub fn link_to(v: Node) -> u16
+    requires { ⌜ linkTo (v .id) < 65536 ⌝ }
+    ensures { λ r. ⌜ r ≡ linkTo (v .id) ⌝ }
+{
+    v.id + FIRST_NODE
+}
 
 // A column's start is made a slice of its own, so that a loop finds it but once.
 pub fn at(links: &[u16], nodes: usize, column: usize, v: Node) -> u16

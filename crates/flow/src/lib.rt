@@ -40,13 +40,13 @@ pub fn find(
     let nodes = numbers.nodes;
     let gates = nodes - numbers.inputs;
     let outcome = rounds::run(numbers, fanins, &order[..gates], &roles[..nodes], links);
-    let Outcome::Full(number) = outcome else {
+    let Outcome::Full(size) = outcome else {
         cells::clear(links, nodes, INS, 3);
         return Flow::Paths;
     };
     rounds::write_leaves(nodes, links, cut);
     columns::clear(links, COLUMNS * nodes);
-    Flow::Cut(CutSize { leaves: number })
+    Flow::Cut(size)
 }
 
 // Reads the i-th of the paths that stand in the links: writes its ids in order to the front of the third column, which is free then, and answers how

@@ -6,6 +6,7 @@ use crate::cells::NEXT;
 use crate::cells::NO_LINK;
 use crate::cells::PREV;
 use crate::cells::at;
+use crate::cells::node_of;
 use storage::Node;
 ghost use mathlib.Core.Path.{_≡_};
 ghost use mathlib.Core.Bool.{cond};
@@ -74,17 +75,17 @@ pub fn write_path(links: &mut [u16], nodes: usize, first: Node) -> usize
     ensures { λ r. ⌜ Listed (follow (cell (nextIn nodes (now (links .entry)))) nodes (first .id)) nodes (now (links .entry)) r (now (links .exit)) ⌝ }
 {
     let start = INS * nodes;
-    let mut v = first.id;
+    let mut v = first;
     let mut j: usize = 0;
     while j < nodes {
         let place = start + j;
-        links[place] = v;
+        links[place] = v.id;
         j += 1;
-        let to = link_of(links, nodes, Node { id: v });
+        let to = link_of(links, nodes, v);
         if to < FIRST_NODE {
             return j;
         }
-        v = to - FIRST_NODE;
+        v = node_of(to);
     }
     j
 }

@@ -6,18 +6,20 @@ use crate::cells::NOT_FOUND;
 use crate::cells::OUTS;
 use crate::cells::at;
 use crate::cells::clear;
+use storage::CutSize;
 use storage::Node;
 use storage::Numbers;
+use storage::lists::put_node;
 ghost use mathlib.Core.Path.{_≡_};
 ghost use Prim.Native.Nat.{_*_};
 ghost use lib.Seq.{sets};
 ghost use Rattle.storage.specs.Entries.{Beyond};
 ghost use Rattle.flow.specs.Rounds.{RunAsked, Ran, leavesIn, LeafPut, LeafAsked, LeavesAsked};
 
-// How the rounds end: with K + 1 paths, or full with fewer.
+// How the rounds end: with K + 1 paths, or full with fewer: as many as the least cut has leaves.
 pub enum Outcome {
     Many,
-    Full(u8),
+    Full(CutSize),
 }
 
 pub fn run(
@@ -37,7 +39,7 @@ pub fn run(
     let mut number: u8 = 0;
     while number <= most {
         if !add_path(numbers, fanins, order, roles, links) {
-            return Outcome::Full(number);
+            return Outcome::Full(CutSize { leaves: number });
         }
         number += 1;
     }
@@ -55,7 +57,7 @@ fn put_leaf(nodes: usize, links: &[u16], v: Node, j: usize, cut: &mut [u16]) -> 
     if at(links, nodes, OUTS, v) != NOT_FOUND {
         return j;
     }
-    cut[j] = v.id;
+    put_node(cut, j, v);
     j + 1
 }
 

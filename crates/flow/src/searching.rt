@@ -1,7 +1,6 @@
 // The search for one more path, by pull and sweep: it goes along the order and numbers each state that its fanins, its link or the source reach,
 // until an end's out-state has a number, or a sweep gives none. Nothing in what it leaves says in which order it goes.
 use crate::cells::EDGE_OF_FLOW;
-use crate::cells::FIRST_NODE;
 use crate::cells::INS;
 use crate::cells::NEXT;
 use crate::cells::NO_LINK;
@@ -10,19 +9,18 @@ use crate::cells::OUTS;
 use crate::cells::PARENT;
 use crate::cells::at;
 use crate::cells::clear;
+use crate::cells::link_to;
+use crate::cells::node_of;
 use crate::cells::put;
 use storage::Node;
 use storage::Numbers;
 use storage::lists::entry_at;
+use storage::lists::node_at;
 use storage::lists::size_at;
-use storage::roles::AREA;
 use storage::roles::END;
-ghost use mathlib.Core.Path.{_≡_};
+use storage::roles::is_free;
 ghost use Prim.Native.Nat.{_+_, _<_};
-ghost use lib.ListN.{length};
-ghost use lib.Dec.{eqb};
-ghost use Rattle.storage.specs.Entries.{at as cell};
-ghost use Rattle.storage.specs.Roles.{areaIn, endsIn};
+ghost use Rattle.storage.specs.Roles.{endsIn};
 ghost use Rattle.flow.specs.Links.{nextIn, insIn, outsIn};
 ghost use Rattle.flow.specs.Cells.{CellIn, PathsKept};
 ghost use Rattle.flow.specs.Sweeps.{EndReached, EndAsked, SweepAsked, SweptSo, SearchAsked, SoughtSo};
@@ -41,19 +39,6 @@ pub enum Sought {
     Nothing,
 }
 
-// Whether v lies in the area.
-fn is_inside(roles: &[u8], v: Node) -> bool
-    requires { ⌜ v .id < length (now roles) ⌝ }
-    ensures { λ r. ⌜ r ≡ eqb (cell (areaIn (now (roles .entry))) (v .id)) 1 ⌝ }
-{
-    let i = v.id as usize;
-    let role = roles[i];
-    if role == AREA {
-        return true;
-    }
-    role == END
-}
-
 // A fanin of v whose out-state was found, as a link, or none.
 fn found_fanin(numbers: Numbers, fanins: &[u16], links: &[u16], v: Node) -> u16
     requires { ⌜ InAsked (numbers .inputs) (numbers .nodes) (now fanins) (now links) (v .id) ⌝ }
@@ -65,7 +50,7 @@ fn found_fanin(numbers: Numbers, fanins: &[u16], links: &[u16], v: Node) -> u16
     while i < most {
         let u = entry_at(fanins, v, i);
         if at(links, nodes, OUTS, u) != NOT_FOUND {
-            return u.id + FIRST_NODE;
+            return link_to(u);
         }
         i += 1;
     }
@@ -89,7 +74,7 @@ fn way_in(numbers: Numbers, fanins: &[u16], links: &[u16], v: Node) -> u16
     if at(links, nodes, OUTS, v) == NOT_FOUND {
         return NO_LINK;
     }
-    v.id + FIRST_NODE
+    link_to(v)
 }
 
 // Whether v's out-state is reached: through v, where v is unused, or back from the node that it feeds.
@@ -104,10 +89,7 @@ fn way_out(nodes: usize, links: &[u16], v: Node) -> bool
     if to == EDGE_OF_FLOW {
         return false;
     }
-    let g = Node {
-        id: to - FIRST_NODE,
-    };
-    at(links, nodes, INS, g) != NOT_FOUND
+    at(links, nodes, INS, node_of(to)) != NOT_FOUND
 }
 
 // Numbers the in-state of the input v, which the source reaches, if it has no number yet; answers the last number given.
@@ -162,14 +144,14 @@ fn visit_input(nodes: usize, roles: &[u8], links: &mut [u16], v: Node, number: u
     requires { ⌜ InputAsked nodes (now roles) (now links) (v .id) number ⌝ }
     ensures { λ r. ⌜ InputVisited nodes (now (roles .entry)) (now (links .entry)) (v .id) number r (now (links .exit)) ⌝ }
 {
-    if !is_inside(roles, v) {
+    if !is_free(roles, v) {
         return number;
     }
     let entered = enter_input(nodes, links, v, number);
     leave(nodes, links, v, entered)
 }
 
-// The same of a gate.
+// Visits a gate of the area: its in-state, then its out-state.
 fn visit_gate(
     numbers: Numbers,
     fanins: &[u16],
@@ -182,7 +164,7 @@ fn visit_gate(
     ensures { λ r. ⌜ Visited (numbers .inputs) (numbers .nodes) (now (fanins .entry)) (now (roles .entry)) (now (links .entry))
         (v .id) number r (now (links .exit)) ⌝ }
 {
-    if !is_inside(roles, v) {
+    if !is_free(roles, v) {
         return number;
     }
     let nodes = numbers.nodes;
@@ -230,7 +212,7 @@ fn sweep(
     let gates = nodes - inputs;
     let mut j: usize = 0;
     while j < gates {
-        let v = Node { id: order[j] };
+        let v = node_at(order, j);
         last = visit_gate(numbers, fanins, roles, links, v, last);
         if is_reached(nodes, roles, links, v) {
             return Swept::Reached(v);

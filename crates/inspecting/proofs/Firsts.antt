@@ -4,8 +4,8 @@ use native.Mathlib.Omega.{arith}
 use mathlib.Core.Path.{_≡_, refl, subst}
 use mathlib.Core.List.{List, _∷_, _++_, flatMap, List·Memᴰ, List·Memᴰ·head, List·Memᴰ·tail, List·Memᴰ·not-nil, List·Memᴰ·cases-cons}
 use mathlib.Core.Logic.{⊎-elim}
-use Rattle.sheet.specs.Sheet.{Lut, Roots}
-use Rattle.sheet.specs.Rules.{Rule, Found, FirstBroken, from}
+use Rattle.sheet.specs.paper.Sheet.{Lut, Roots}
+use Rattle.sheet.specs.paper.Rules.{Rule, Found, FirstBroken, from}
 use Rattle.sheet.proofs.Firsts.{first-before, first-after, from-member}
 use Rattle.sheet.proofs.Listed.{root-gate}
 

@@ -5,18 +5,18 @@ use mathlib.Core.Path.{_≡_, refl, ap, subst}
 use mathlib.Core.Bool.{true}
 use mathlib.Core.List.{List, [], _∷_, _++_, map, flatMap, List·Memᴰ, List·Memᴰ·head, List·Memᴰ·tail}
 use lib.ListN.{length, getD, take}
-use Rattle.theory.specs.Net.{Net}
-use Rattle.theory.specs.Lists.{greatest}
-use Rattle.theory.specs.Walk.{Cut}
-use Rattle.theory.specs.Cover.{Luts}
+use Rattle.theory.specs.paper.Net.{Net}
+use Rattle.theory.specs.paper.Lists.{greatest}
+use Rattle.theory.specs.paper.Walk.{Cut}
+use Rattle.theory.specs.paper.Cover.{Luts}
 use Rattle.storage.specs.declared.Node.{Node}
 use Rattle.storage.specs.Entries.{cleared}
 use Rattle.storage.specs.Drawings.{netIn, tablesIn}
 use Rattle.storage.proofs.Clears.{cleared-size}
 use Rattle.storage.proofs.Drawings.{drawn-span}
 use Rattle.covering.specs.Covers.{lutsIn}
-use Rattle.sheet.specs.Sheet.{Sheet}
-use Rattle.sheet.specs.Rules.{Rule, FirstBroken, Keeps, lutsOf, lutRules, labelsOf, gates}
+use Rattle.sheet.specs.paper.Sheet.{Sheet}
+use Rattle.sheet.specs.paper.Rules.{Rule, FirstBroken, Keeps, lutsOf, lutRules, labelsOf, gates}
 use Rattle.weighing.specs.declared.luts.LutsJudged.{LutsJudged}
 use Rattle.weighing.specs.declared.luts.LutsJudged.the-variants as luts-judged
 use Rattle.weighing.specs.declared.whole.WholeJudged.{WholeJudged}
@@ -24,7 +24,7 @@ use Rattle.weighing.specs.PassThree.{LutsRuled, LutsAsked}
 use Rattle.weighing.specs.PassFour.{WholeRuled, WholeAsked}
 use Rattle.inspecting.specs.declared.Inspection.{Inspection}
 use Rattle.inspecting.specs.declared.Inspection.the-variants as inspection
-use Rattle.inspecting.specs.Inspecting.{replyOf}
+use Rattle.inspecting.specs.paper.Inspecting.{replyOf}
 use Rattle.inspecting.specs.Holding.{SheetHeld, LastAsked, LastRuled}
 use Rattle.sheet.proofs.Firsts.{first-before, first-after}
 use Rattle.inspecting.proofs.Listed.{luts-held, luts-laid, listed-below}

@@ -12,10 +12,10 @@ use lib.Dec.{eqb}
 use Rattle.storage.specs.Drawings.{netIn}
 use Rattle.storage.proofs.Drawings.{fanins-in, fanins-out}
 use Rattle.storage.proofs.Entries.{false-not-true}
-use Rattle.theory.specs.Values.{bit}
+use Rattle.theory.specs.paper.Values.{bit}
 use Rattle.covering.specs.Covers.{isRoot, lutsIn}
-use Rattle.sheet.specs.Sheet.{Lut, Roots}
-use Rattle.sheet.specs.Rules.{isListed, leavesListed, lutsOf}
+use Rattle.sheet.specs.paper.Sheet.{Lut, Roots}
+use Rattle.sheet.specs.paper.Rules.{isListed, leavesListed, lutsOf}
 use Rattle.sheet.specs.Arrays.{HoldsLuts}
 use Rattle.sheet.proofs.Listed.{listed-lut, root-gate}
 use Rattle.weighing.specs.Laid.{LutsLaid}
@@ -44,7 +44,7 @@ module _ {inputs nodes : ℕ} {luts : List Lut} (rise : Roots nodes inputs luts)
   pub listed-below : (v : ℕ) → isListed luts v ≡ true → v < nodes
   listed-below v at = listed-gate v at .1
 
-  pub listed-above : (v : ℕ) → isListed luts v ≡ true → inputs ≤ v
+  listed-above : (v : ℕ) → isListed luts v ≡ true → inputs ≤ v
   listed-above v at = listed-gate v at .0
 
   unlisted-beyond : (v : ℕ) → nodes ≤ v → isListed luts v ≡ false

@@ -4,26 +4,25 @@ use native.Mathlib.Omega.{arith}
 use mathlib.Core.Path.{_≡_, refl, ap, _∙_}
 use mathlib.Core.List.{List, _++_, flatMap, append-assoc}
 use lib.ListN.{length, getD, take}
-use Rattle.theory.specs.Net.{Net}
+use Rattle.theory.specs.paper.Net.{Net}
 use Rattle.storage.specs.declared.Node.{Node}
 use Rattle.storage.specs.Drawings.{netIn, tablesIn}
-use Rattle.storage.proofs.Clears.{cleared-size}
 use Rattle.storage.proofs.Drawings.{drawn-span}
-use Rattle.sheet.specs.Sheet.{Sheet}
-use Rattle.sheet.specs.Encoding.{narrow}
-use Rattle.sheet.specs.Shape.{reading}
-use Rattle.sheet.specs.Rules.{Rule, Found, FirstBroken, Keeps, gateRules, gates, rulesOf}
+use Rattle.sheet.specs.paper.Sheet.{Sheet}
+use Rattle.sheet.specs.paper.Encoding.{narrow}
+use Rattle.sheet.specs.paper.Shape.{reading}
+use Rattle.sheet.specs.paper.Rules.{Rule, Found, FirstBroken, Keeps, gateRules, gates, rulesOf}
 use Rattle.sheet.specs.Arrays.{HoldsLines}
 use Rattle.sheet.proofs.Firsts.{first-before, first-after}
 use Rattle.shaping.specs.Loading.{LineArrays, LutArrays, LineRoom, LutRoom, Loadable, Loaded}
 use Rattle.shaping.proofs.Holding.{holds-lines, holds-places, holds-luts}
 use Rattle.judging.specs.declared.Judged.{Judged}
 use Rattle.judging.specs.declared.Judged.the-variants as judged
-use Rattle.judging.specs.Gates.{linedOf, HoldsSheet, JudgeAsked, GatesJudged, foundOf}
+use Rattle.judging.specs.Gates.{linedOf, HoldsSheet, JudgeAsked, JudgesHeld, foundOf}
 use Rattle.inspecting.specs.declared.Inspection.{Inspection}
 use Rattle.inspecting.specs.declared.Inspection.the-variants as inspection
-use Rattle.inspecting.specs.Inspecting.{replyOf, dueFor}
-use Rattle.inspecting.specs.Holding.{SheetHeld, lastRules, LastAsked, LastRuled, SheetRuled, RulesAsked}
+use Rattle.inspecting.specs.paper.Inspecting.{replyOf}
+use Rattle.inspecting.specs.Holding.{SheetHeld, lastRules, LastAsked, LastRuled, SheetRuled, RulesAsked, dueFor}
 use Rattle.inspecting.proofs.Sound.{roots-rise, sheet-short}
 
 rules-split : (net : Net) (sheet : Sheet) → rulesOf net sheet ≡ flatMap (gateRules (net .inputs) (sheet .lines)) (gates net) ++ lastRules net sheet
@@ -79,22 +78,14 @@ module _ {k inputs nodes number : ℕ} {fanins rows outputs order t : List ℕ} 
           depth = loaded .depth;
         }
 
-    module _ {roles roles′ : List ℕ} {r : Judged}
-        (judges : GatesJudged k inputs nodes fanins (linedOf narrow (a′ .labels) (a′ .cuts) (a′ .places) t) roles r roles′) where
+    pub last-asked : {roles : List ℕ} → nodes ≤ length roles →
+        LastAsked k inputs nodes number fanins rows outputs order (a′ .labels) (b′ .luts) (b′ .cuts) (b′ .tables) head roles
+    last-asked long = record { laid = p .laid; labels-long = lines-held .labels-long; sheet = sheet; held = sheet-held; roles-long = long }
+
+    module _ (r : Judged) (judges : JudgesHeld k inputs nodes fanins (linedOf narrow (a′ .labels) (a′ .cuts) (a′ .places) t) (gates net) r) where
       first-gates : FirstBroken (Keeps net (tablesIn rows) k outs sheet) (flatMap (gateRules (net .inputs) (sheet .lines)) (gates net))
           (foundOf (net .inputs) (sheet .lines) r)
-      first-gates = judges .reply 191 (sheet .lines) holds-sheet (tablesIn rows) outs sheet refl
-
-      pub last-asked : nodes ≤ length roles →
-          LastAsked k inputs nodes number fanins rows outputs order (a′ .labels) (b′ .luts) (b′ .cuts) (b′ .tables) head roles′
-      last-asked long =
-          record {
-            laid = p .laid;
-            labels-long = lines-held .labels-long;
-            sheet = sheet;
-            held = sheet-held;
-            roles-long = omega (arith, long, ap (λ (l : List ℕ). length l) (judges .roles-clear), cleared-size nodes roles long);
-          }
+      first-gates = judges 191 (sheet .lines) holds-sheet (tablesIn rows) outs sheet refl
 
       -- pass two breaks off
       gates-rule : {rule : Rule} → foundOf (net .inputs) (sheet .lines) r ≡ Found.broken rule → Ruled (replyOf (sheet .depth) (Found.broken rule))

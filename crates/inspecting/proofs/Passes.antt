@@ -6,15 +6,15 @@ use mathlib.Core.Bool.{Bool, true, false}
 use mathlib.Core.List.{List, [], _∷_, _++_, map, flatMap, List·Memᴰ, List·Memᴰ·not-nil}
 use Rattle.storage.specs.Drawings.{netIn, Arranged}
 use Rattle.storage.proofs.Drawings.{gate-below}
-use Rattle.theory.specs.Net.{Net, Gate}
-use Rattle.theory.specs.Lists.{greatest}
-use Rattle.theory.specs.Walk.{Cut, Met}
-use Rattle.theory.specs.Cover.{Luts, Depth, Depths}
-use Rattle.theory.specs.Lookup.{ConeTable}
+use Rattle.theory.specs.paper.Net.{Net, Gate}
+use Rattle.theory.specs.paper.Lists.{greatest}
+use Rattle.theory.specs.paper.Walk.{Cut, Met}
+use Rattle.theory.specs.paper.Cover.{Luts, Depth, Depths}
+use Rattle.theory.specs.paper.Lookup.{ConeTable}
 use Rattle.covering.specs.Covers.{Chosen, lutsIn}
 use Rattle.covering.proofs.Orders.{leaves-chosen}
-use Rattle.sheet.specs.Sheet.{Lut, Sheet, Roots, lutOf}
-use Rattle.sheet.specs.Rules.{Rule, Found, FirstBroken, Keeps, DepthKept, CoverKept, isListed, leavesListed, tableListed, lutsOf, lutRules, labelsOf, gates}
+use Rattle.sheet.specs.paper.Sheet.{Lut, Sheet, Roots, lutOf}
+use Rattle.sheet.specs.paper.Rules.{Rule, Found, FirstBroken, Keeps, DepthKept, CoverKept, isListed, leavesListed, tableListed, lutsOf, lutRules, labelsOf, gates}
 use Rattle.weighing.specs.declared.luts.LutsJudged.{LutsJudged}
 use Rattle.weighing.specs.declared.luts.LutsJudged.the-variants as luts-judged
 use Rattle.weighing.specs.declared.whole.WholeJudged.{WholeJudged}

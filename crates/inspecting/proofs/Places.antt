@@ -8,17 +8,18 @@ use mathlib.Core.List.{List}
 use borrow.Author.Tests.{ltb-false}
 use lib.ListN.{length, getD}
 use lib.Dec.{ltb, eqb}
-use Rattle.drawing.specs.Rules.{first}
-use Rattle.drawing.specs.Bytes.{numberAt}
+use Rattle.drawing.specs.paper.Rules.{first}
+use Rattle.drawing.specs.paper.Bytes.{numberAt}
 use Rattle.drawing.proofs.Digits.{number-none, number-more}
 use Rattle.drawing.proofs.Places.{first-so}
 use Rattle.sheet.specs.declared.Fault.{Fault}
 use Rattle.sheet.specs.declared.Fault.the-variants.{Extra}
 use Rattle.sheet.specs.declared.Ruling.{Ruling}
 use Rattle.sheet.specs.declared.Ruling.the-variants.{Sound, Faulty}
-use Rattle.sheet.specs.Sheet.{Line, Lut, Sheet}
-use Rattle.sheet.specs.Shape.{place, Due, fieldRules, endAt, lutAt, lutRuling, lutRange, lutLengthWrong, lineAt, lineRuling, lineRange, lineLengthWrong}
-use Rattle.sheet.specs.Shape.{headRuling, depthAt, countAt, Fields, andField, linesFrom, lutsFrom, afterHead, afterLines, afterLuts, reading}
+use Rattle.sheet.specs.paper.Sheet.{Line, Lut, Sheet}
+use Rattle.sheet.specs.paper.Shape.{Due, fieldRules, endAt, lutAt, lutRuling, lutRange, lutLengthWrong, lineAt, lineRuling, lineRange, lineLengthWrong}
+use Rattle.sheet.specs.Shape.{place}
+use Rattle.sheet.specs.paper.Shape.{headRuling, depthAt, countAt, Fields, andField, linesFrom, lutsFrom, afterHead, afterLines, afterLuts, reading}
 use Rattle.shaping.specs.Fields.{headLengthWrong, headOutOfRange}
 use Rattle.shaping.proofs.Values.{or-none}
 use Rattle.shaping.proofs.FieldRuns.{lut-kept, line-kept, head-kept}

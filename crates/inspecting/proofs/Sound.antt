@@ -6,8 +6,8 @@ use mathlib.Core.Path.{_≡_, ap, sym, subst}
 use mathlib.Core.List.{List}
 use lib.ListN.{length, getD}
 use Rattle.sheet.specs.declared.Ruling.the-variants.{Sound}
-use Rattle.sheet.specs.Sheet.{Sheet, Roots}
-use Rattle.sheet.specs.Shape.{Due, endAt, lutAt, lutRuling, countAt, lutsFrom, reading}
+use Rattle.sheet.specs.paper.Sheet.{Sheet, Roots}
+use Rattle.sheet.specs.paper.Shape.{Due, endAt, lutAt, lutRuling, countAt, lutsFrom, reading}
 use Rattle.shaping.proofs.FieldRuns.{head-kept}
 use Rattle.shaping.proofs.Found.{rest-sound, all-read, root-least, root-node, theLines, theLuts, whole}
 use Rattle.inspecting.proofs.Places.{faultOr, head-numbers, field-short, lines-place, luts-place}

@@ -7,21 +7,23 @@ use lib.ListN.{length, take}
 use Rattle.storage.specs.declared.Node.{Node}
 use Rattle.storage.specs.declared.Numbers.{Numbers}
 use Rattle.storage.specs.Drawings.{netIn, tablesIn}
-use Rattle.theory.specs.Net.{Net, Gate}
+use Rattle.theory.specs.paper.Net.{Net, Gate}
 use Rattle.theory.proofs.Cones.{cone-table-same}
 use Rattle.drawing.specs.declared.Refusal.{Refusal}
-use Rattle.drawing.specs.Fields.{headK, headI}
-use Rattle.drawing.specs.Table.{netOf, tablesOf}
-use Rattle.drawing.specs.Reading.{arraysOf, found, tableOf, nodesOf}
+use Rattle.drawing.specs.paper.Fields.{headK, headI}
+use Rattle.drawing.specs.paper.Table.{netOf, tablesOf}
+use Rattle.drawing.specs.paper.Reading.{found, tableOf, nodesOf}
+use Rattle.drawing.specs.Reading.{arraysOf}
 use Rattle.drawing.proofs.SoundTables.{table-sound}
 use Rattle.taking.specs.declared.Taking.the-variants as taking
-use Rattle.taking.specs.Judged.{Says, Ready}
+use Rattle.taking.specs.paper.Says.{Says}
+use Rattle.taking.specs.Judged.{Ready}
 use Rattle.taking.proofs.Judged.{TakenAs, refused-verdict, loop-said}
-use Rattle.sheet.specs.Sheet.{Sheet}
-use Rattle.sheet.specs.Rules.{Rule, Keeps, rulesOf}
+use Rattle.sheet.specs.paper.Sheet.{Sheet}
+use Rattle.sheet.specs.paper.Rules.{Rule, Keeps, rulesOf}
 use Rattle.inspecting.specs.declared.Inspection.{Inspection}
 use Rattle.inspecting.specs.declared.Inspection.the-variants as inspection
-use Rattle.inspecting.specs.Inspecting.{Drawable, sheetIn, Inspects}
+use Rattle.inspecting.specs.paper.Inspecting.{sheetIn, Inspects}
 use Rattle.inspecting.specs.Holding.{Replies, TableLaid, SheetRuled}
 use Rattle.sheet.proofs.Firsts.{first-as}
 
@@ -40,7 +42,7 @@ module _ {s fanins rows outputs order : List ℕ} {n : Numbers} (taken : TakenAs
   pub table-laid : TableLaid (n .k .leaves) (n .inputs) (n .nodes) (n .roots) fanins rows outputs order
   table-laid =
       let ready = taken .ready in
-      let sound = table-sound s (ready .whole) in
+      let sound = table-sound s (ready .taken .whole) in
       subst (λ (m : Numbers). TableLaid (m .k .leaves) (m .inputs) (m .nodes) (m .roots) fanins rows outputs order) (sym (taken .numbers-are))
       (record {
         drawing = ready .drawing;
@@ -77,12 +79,9 @@ module _ (s t : List ℕ) {fanins rows outputs order : List ℕ} (ready : Ready 
       let back = keeps-tables (headK s) (found s .outputs) (sheetIn s t) (λ v gate. sym (ready .tables v gate)) in
       record { found = q′ .found; first = first-as kept back (q′ .first); reply = q′ .reply }
 
-  drawable : Drawable s t
-  drawable = record { whole = ready .whole; no-loop = ready .no-loop }
-
   says-sheet : {r : Inspection} → SheetRuled (headK s) (headI s) (nodesOf s) fanins rows (take (length (found s .outputs)) outputs) t r → Inspects s t r
-  says-sheet (SheetRuled.faulty e) = Inspects.faulty drawable e
-  says-sheet (SheetRuled.ruled sound p) = let q = replies-bytes p in rw (q .reply) (Inspects.ruled drawable sound (q .first))
+  says-sheet (SheetRuled.faulty e) = Inspects.faulty (ready .taken) e
+  says-sheet (SheetRuled.ruled sound p) = let q = replies-bytes p in rw (q .reply) (Inspects.ruled (ready .taken) sound (q .first))
 
 pub says-taken : (t : List ℕ) {s fanins rows outputs order : List ℕ} {n : Numbers} → TakenAs s n (arraysOf fanins rows outputs) order →
     {r : Inspection} → SheetRuled (n .k .leaves) (n .inputs) (n .nodes) fanins rows (take (n .roots) outputs) t r → Inspects s t r

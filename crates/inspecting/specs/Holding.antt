@@ -3,26 +3,31 @@ use Prim.Native.Nat.{ℕ, _≤_, _<_}
 use mathlib.Core.Path.{_≡_}
 use mathlib.Core.List.{List, [], _∷_, _++_, map, flatMap, List·Memᴰ}
 use lib.ListN.{length, getD, take}
-use Rattle.theory.specs.Net.{Net}
+use Rattle.theory.specs.paper.Net.{Net}
 use Rattle.storage.specs.declared.Numbers.{Numbers}
 use Rattle.storage.specs.Drawings.{netIn, tablesIn, Arranged}
-use Rattle.drawing.specs.Limits.{mostNodes}
+use Rattle.drawing.specs.paper.Limits.{mostNodes}
 use Rattle.sheet.specs.declared.Fault.{Fault}
 use Rattle.sheet.specs.declared.Ruling.the-variants as ruling
-use Rattle.sheet.specs.Limits.{mostDepth}
-use Rattle.sheet.specs.Sheet.{Sheet, Roots}
-use Rattle.sheet.specs.Encoding.{narrow}
-use Rattle.sheet.specs.Shape.{reading}
-use Rattle.sheet.specs.Rules.{Rule, Found, FirstBroken, Keeps, labelsOf, lutRules, gates, rulesOf}
+use Rattle.sheet.specs.paper.Limits.{mostDepth}
+use Rattle.sheet.specs.paper.Sheet.{Sheet, Roots}
+use Rattle.sheet.specs.paper.Encoding.{narrow}
+use Rattle.sheet.specs.paper.Shape.{Due, reading}
+use Rattle.sheet.specs.Shape.{dueFrom}
+use Rattle.sheet.specs.paper.Rules.{Rule, Found, FirstBroken, Keeps, labelsOf, lutRules, gates, rulesOf}
 use Rattle.sheet.specs.Arrays.{HoldsLuts}
 use Rattle.shaping.specs.declared.Terms.{Terms}
 use Rattle.inspecting.specs.declared.Inspection.{Inspection}
 use Rattle.inspecting.specs.declared.Inspection.the-variants.{Shape}
-use Rattle.inspecting.specs.Inspecting.{replyOf, dueFor}
+use Rattle.inspecting.specs.paper.Inspecting.{replyOf}
+
+-- what a sheet is read for, as `dueIn` says it of a table's bytes
+abbrev pub dueFor : (k inputs nodes : ℕ) → Due
+dueFor k inputs nodes = dueFrom narrow mostDepth k inputs nodes
 
 -- what a sheet for a table with these numbers is read by; `dueOf` of it is `dueFor`
 abbrev pub termsFor : Numbers → Terms
-termsFor n = record { form = narrow; most = mostDepth; numbers = n }
+termsFor n = record { form = narrow; most = record { depth = mostDepth }; numbers = n }
 
 -- A table taken: a drawing with its order, its tables and its outputs in arrays.
 pub record TableLaid (k inputs nodes number : ℕ) (fanins rows outputs order : List ℕ) : Type 0 where

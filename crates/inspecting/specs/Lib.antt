@@ -1,2 +1,2 @@
-pub mod Inspecting
+pub mod paper
 pub mod Holding

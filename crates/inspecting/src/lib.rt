@@ -1,4 +1,6 @@
 // The inspector: a gate table and a sheet by anyone, accepted or refused.
+pub mod answers;
+
 use drawing::Refusal;
 use drawing::limits::MOST_NODES;
 use drawing::limits::MOST_OUTPUTS;
@@ -21,9 +23,16 @@ use weighing::luts::LutsJudged;
 use weighing::luts::judge_luts;
 use weighing::whole::WholeJudged;
 use weighing::whole::judge_whole;
-ghost use lib.ListN.{take};
+ghost use Prim.Native.Nat.{ℕ, _≤_};
+ghost use lib.ListN.{length, take};
 ghost use mathlib.Core.Path.{_≡_};
-ghost use Rattle.inspecting.specs.Inspecting.{Inspects};
+ghost use mathlib.Core.List.{List};
+ghost use Rattle.storage.specs.Drawings.{netIn};
+ghost use Rattle.drawing.specs.paper.Limits.{mostNodes};
+ghost use Rattle.sheet.specs.paper.Encoding.{narrow};
+ghost use Rattle.sheet.specs.paper.Rules.{gates};
+ghost use Rattle.judging.specs.Gates.{linedOf, JudgeAsked, JudgesHeld};
+ghost use Rattle.inspecting.specs.paper.Inspecting.{Inspects};
 ghost use Rattle.inspecting.specs.Holding.{LastAsked, LastRuled, TableLaid, RulesAsked, SheetRuled, termsFor};
 
 // What the inspector says: the depth of a sheet that keeps all rules; the table's refusal; the lowest gate on a loop; the fault in the
@@ -104,9 +113,41 @@ fn terms_for(numbers: Numbers) -> Terms
 {
     Terms {
         form: narrow_form(),
-        most: MOST_DEPTH,
+        most: Label { depth: MOST_DEPTH },
         numbers: numbers,
     }
+}
+
+// Pass two, on a sheet of the paper's form.
+fn judge_lines(
+    numbers: Numbers,
+    fanins: &[u16],
+    order: &[u16],
+    labels: &[u16],
+    cuts: &[u16],
+    places: &[u32],
+    sheet: &[u8],
+) -> Judged
+    requires { ⌜ numbers .nodes ≤ mostNodes ⌝ }
+    requires { ⌜ ((roles : List ℕ) → numbers .nodes ≤ length roles → JudgeAsked (numbers .k .leaves) (numbers .inputs) (numbers .nodes)
+        (now fanins) (now order) (linedOf narrow (now labels) (now cuts) (now places) (now sheet)) roles) ⌝ }
+    ensures { λ r. ⌜ JudgesHeld (numbers .k .leaves) (numbers .inputs) (numbers .nodes) (now (fanins .entry))
+        (linedOf narrow (now (labels .entry)) (now (cuts .entry)) (now (places .entry)) (now (sheet .entry)))
+        (gates (netIn (numbers .inputs) (numbers .nodes) (now (fanins .entry)))) r ⌝ }
+{
+    let form = narrow_form();
+    let mut roles = [0u8; MOST_NODES];
+    judge_gates(
+        form,
+        numbers,
+        fanins,
+        order,
+        labels,
+        cuts,
+        places,
+        sheet,
+        &mut roles,
+    )
 }
 
 // A sheet of sound shape is loaded once, and all later passes read the arrays: pass two, and for the paths of a line its bytes; then three
@@ -124,7 +165,6 @@ fn judge_rules(
     ensures { λ r. ⌜ SheetRuled (numbers .k .leaves) (numbers .inputs) (numbers .nodes) (now (fanins .entry)) (now (rows .entry))
         (take (numbers .roots) (now (outputs .entry))) (now (sheet .entry)) r ⌝ }
 {
-    let terms = terms_for(numbers);
     let mut labels = [0u16; MOST_NODES];
     let mut cuts = [0u16; MOST_PLACES];
     let mut places = [0u32; MOST_NODES];
@@ -132,7 +172,7 @@ fn judge_rules(
     let mut lut_cuts = [0u16; MOST_PLACES];
     let mut tables = [0u64; MOST_NODES];
     let head = load_sheet(
-        terms,
+        terms_for(numbers),
         sheet,
         &mut labels,
         &mut cuts,
@@ -141,18 +181,8 @@ fn judge_rules(
         &mut lut_cuts,
         &mut tables,
     );
+    let second = judge_lines(numbers, fanins, order, &labels, &cuts, &places, sheet);
     let mut roles = [0u8; MOST_NODES];
-    let second = judge_gates(
-        terms.form,
-        numbers,
-        fanins,
-        order,
-        &labels,
-        &cuts,
-        &places,
-        sheet,
-        &mut roles,
-    );
     match second {
         Judged::Cut(gate) => Inspection::Cut(gate),
         Judged::Label(gate) => Inspection::Label(gate),

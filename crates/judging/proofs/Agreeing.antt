@@ -3,13 +3,13 @@ use Prim.Native.Nat.{ℕ, suc}
 use mathlib.Core.Path.{_≡_, sym, ap, _∙_}
 use mathlib.Core.Logic.{inl, inr, ⊎-elim}
 use mathlib.Core.List.{List, map, List·Memᴰ}
-use Rattle.theory.specs.Net.{Net}
-use Rattle.theory.specs.Lists.{greatest}
-use Rattle.theory.specs.Walk.{Behind}
-use Rattle.theory.specs.Evidence.{peak}
+use Rattle.theory.specs.paper.Net.{Net}
+use Rattle.theory.specs.paper.Lists.{greatest}
+use Rattle.theory.specs.paper.Walk.{Behind}
+use Rattle.theory.specs.paper.Evidence.{peak}
 use Rattle.theory.proofs.Picks.{map-agree}
 use Rattle.theory.proofs.Rules.{peak-agrees, evidence-agrees, owes-agrees}
-use Rattle.sheet.specs.Rules.{LabelKept, PathsKept}
+use Rattle.sheet.specs.paper.Rules.{LabelKept, PathsKept}
 use Rattle.judging.specs.Gates.{LabelRight}
 
 pub paths-agree : {net : Net} {lab mab : ℕ → ℕ} {t k : ℕ} {paths : List (List ℕ)} → ((v : ℕ) → Behind net t v → lab v ≡ mab v) → lab t ≡ mab t →

@@ -4,7 +4,7 @@ use mathlib.Core.Path.{_≡_, sym}
 use mathlib.Core.Bool.{true, false}
 use mathlib.Core.List.{List, Memᴰ·cast}
 use lib.ListN.{length}
-use Rattle.theory.specs.Lists.{isMember}
+use Rattle.theory.specs.Members.{isMember}
 use Rattle.storage.specs.Lists.{sizeAt, entryAt, listAt}
 use Rattle.storage.proofs.Entries.{is-member, no-member}
 use Rattle.storage.proofs.InLists.{list-member, list-place}

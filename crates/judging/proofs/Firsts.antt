@@ -3,10 +3,10 @@ use Prim.Native.Nat.{ℕ}
 use mathlib.Core.Path.{_≡_, refl, sym, subst}
 use mathlib.Core.List.{List, [], _∷_, flatMap}
 use Rattle.storage.specs.declared.Node.{Node}
-use Rattle.theory.specs.Net.{Net}
-use Rattle.theory.specs.Walk.{Cut}
-use Rattle.sheet.specs.Sheet.{Line, Lut}
-use Rattle.sheet.specs.Rules.{FirstBroken, Keeps, LabelKept, PathsKept, labelsOf, lineOfNode, gateRules}
+use Rattle.theory.specs.paper.Net.{Net}
+use Rattle.theory.specs.paper.Walk.{Cut}
+use Rattle.sheet.specs.paper.Sheet.{Line, Lut}
+use Rattle.sheet.specs.paper.Rules.{FirstBroken, Keeps, LabelKept, PathsKept, labelsOf, lineOfNode, gateRules}
 use Rattle.sheet.proofs.Firsts.{first-before, first-after}
 use Rattle.judging.specs.declared.Judged.{Judged}
 use Rattle.judging.specs.declared.Judged.the-variants as judged

@@ -13,13 +13,13 @@ use Rattle.storage.specs.Lists.{listAt}
 use Rattle.storage.specs.Drawings.{netIn, Fed}
 use Rattle.storage.proofs.Clears.{beyond-then}
 use Rattle.storage.proofs.Drawings.{gate-below, gate-above, fed-in}
-use Rattle.theory.specs.Walk.{Behind, Cut}
-use Rattle.theory.specs.Evidence.{peak}
+use Rattle.theory.specs.paper.Walk.{Behind, Cut}
+use Rattle.theory.specs.paper.Evidence.{peak}
 use Rattle.theory.proofs.Walks.{met-node}
 use Rattle.walking.specs.Promises.{CutRuled}
 use Rattle.area.specs.Area.{labelIn, PeakIn}
-use Rattle.sheet.specs.Sheet.{Line}
-use Rattle.sheet.specs.Rules.{LabelKept, PathsKept, lineOfNode, labelsOf}
+use Rattle.sheet.specs.paper.Sheet.{Line}
+use Rattle.sheet.specs.paper.Rules.{LabelKept, PathsKept, lineOfNode, labelsOf}
 use Rattle.judging.specs.declared.Judged.the-variants as judged
 use Rattle.judging.specs.Gates.{linePathsIn, CutAsked, LabelAsked, LabelRight, PathsRuleAsked, Told, Lined, HoldsSheet, JudgeAsked, GateAsked, GatesTried}
 use Rattle.judging.proofs.Lines.{line-sound}

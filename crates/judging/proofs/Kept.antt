@@ -15,17 +15,17 @@ use Rattle.storage.proofs.Clears.{beyond-then}
 use Rattle.storage.proofs.Views.{view-size}
 use Rattle.storage.proofs.Drawings.{gate-below, fed-in}
 use Rattle.storage.proofs.InMarks.{tells-yes, tells-no}
-use Rattle.theory.specs.Net.{Net}
-use Rattle.theory.specs.Lists.{greatest}
-use Rattle.theory.specs.Evidence.{peak, Owes, joined}
+use Rattle.theory.specs.paper.Net.{Net}
+use Rattle.theory.specs.paper.Lists.{greatest}
+use Rattle.theory.specs.paper.Evidence.{peak, Owes, joined}
 use Rattle.theory.proofs.Tests.{Decides, decides-as, decides-equal}
-use Rattle.drawing.specs.Bytes.{numberAt}
+use Rattle.drawing.specs.paper.Bytes.{numberAt}
 use Rattle.walking.specs.Promises.{WalkRoom, WalkMade}
 use Rattle.area.specs.Area.{labelIn, AreaAsked, AreaMarked}
 use Rattle.covering.specs.Covers.{DepthAsked}
 use Rattle.sheet.specs.declared.Form.{Form}
-use Rattle.sheet.specs.Shape.{pathEnd, pathsAt}
-use Rattle.sheet.specs.Rules.{PathsKept}
+use Rattle.sheet.specs.paper.Shape.{pathEnd, pathsAt}
+use Rattle.sheet.specs.paper.Rules.{PathsKept}
 use Rattle.judging.specs.Paths.{arePaths, PathsAsked, PathsTold}
 use Rattle.judging.specs.Gates.{LabelAsked, LabelRight, AtGate, EvidenceAsked, TruePaths, Told, PathsRuleAsked, pathsPlace}
 use Rattle.judging.proofs.True.{decides-evidence}
@@ -36,7 +36,7 @@ pub tells-decided : {test r : Bool} {P : Type 0} → Decides test P → r ≡ te
 tells-decided decides e =
     record { yes = λ yes. decides .holds (sym e ∙ yes); no = λ no p. false≢true (sym no ∙ e ∙ decides .passes p) }
 
--- 26
+-- Rule 26: the label
 
 pub depth-asked : {labels cuts : List ℕ} {t : ℕ} → LabelAsked labels cuts t → DepthAsked labels (drop (7 * t + 1) cuts) (sizeAt cuts t)
 depth-asked {cuts = cuts} {t = t} asked =
@@ -58,7 +58,7 @@ module _ {lab : ℕ → ℕ} {leaves : List ℕ} (p t : ℕ) {label deepest : �
       (decides-equal label (p + 1)))
       e
 
--- 27: the paths
+-- Rule 27: the paths
 
 module _ {inputs nodes k : ℕ} {fanins order : List ℕ} {t : ℕ} {labels : List ℕ} {p : ℕ} {bytes : List ℕ} {at width q : ℕ} {roles : List ℕ}
     (asked : EvidenceAsked inputs nodes k fanins order t labels p bytes at width q roles) where
@@ -122,7 +122,7 @@ module _ {inputs nodes k : ℕ} {fanins order : List ℕ} {t : ℕ} {labels : Li
             rest = beyond-then (walk .rest) (beyond-then (marked .rest) (told .beyond nodes (asked .stand .below)));
           }
 
--- 27: when they are due
+-- Rule 27: when they are due
 
 length-paths : (s : List ℕ) (at width q : ℕ) → length (pathsAt s at width q) ≡ q
 unfolding pathsAt

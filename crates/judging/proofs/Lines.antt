@@ -8,14 +8,15 @@ use mathlib.Core.List.{List, [], _∷_, List·Memᴰ, List·Memᴰ·not-nil, Lis
 use lib.ListN.{length}
 use lib.Dec.{ltb, leb, eqb}
 use borrow.Author.Tests.{ltb-false, leb-false, not-false}
-use Rattle.theory.specs.Evidence.{joined}
-use Rattle.drawing.specs.Bytes.{tagAt, lengthAt, valueAt, numberAt, someFrom}
+use Rattle.theory.specs.paper.Evidence.{joined}
+use Rattle.drawing.specs.paper.Bytes.{tagAt, lengthAt, valueAt, numberAt, someFrom}
 use Rattle.drawing.proofs.SoundFields.{neither}
 use Rattle.sheet.specs.declared.Form.{Form}
 use Rattle.sheet.specs.declared.Fault.{Fault}
 use Rattle.sheet.specs.declared.Ruling.{Ruling}
 use Rattle.sheet.specs.declared.Ruling.the-variants.{Sound, Faulty}
-use Rattle.sheet.specs.Shape.{Due, Below, endAt, rising, pathsUse, someEmpty, leavesRange, lineCut, linePaths, lineAt, lineLengthWrong, lineRange, lineRuling, dueFrom}
+use Rattle.sheet.specs.paper.Shape.{Due, endAt, rising, pathsUse, someEmpty, leavesRange, lineCut, linePaths, lineAt, lineLengthWrong, lineRange, lineRuling}
+use Rattle.sheet.specs.Shape.{Below, dueFrom}
 use Rattle.judging.specs.Paths.{PathsStand}
 use Rattle.judging.specs.Gates.{pathsPlace, LineStands}
 

@@ -3,8 +3,8 @@ use Prim.Native.Nat.{ℕ}
 use mathlib.Core.Path.{_≡_, refl, sym, ap, _∙_}
 use mathlib.Core.List.{List, []}
 use Rattle.storage.specs.Drawings.{netIn}
-use Rattle.sheet.specs.Sheet.{Line, Sheet}
-use Rattle.sheet.specs.Rules.{Rule, Found}
+use Rattle.sheet.specs.paper.Sheet.{Line, Sheet}
+use Rattle.sheet.specs.paper.Rules.{Rule, Found}
 use Rattle.sheet.proofs.Firsts.{first-is-one}
 use Rattle.judging.specs.declared.Judged.{Judged}
 use Rattle.judging.specs.declared.Judged.the-variants as judged

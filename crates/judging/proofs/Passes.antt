@@ -9,7 +9,7 @@ use Rattle.storage.specs.Entries.{cleared, Beyond}
 use Rattle.storage.specs.Drawings.{netIn}
 use Rattle.storage.proofs.Clears.{beyond-same, beyond-then, cleared-used}
 use Rattle.storage.proofs.Drawings.{drawn-span, gate-of}
-use Rattle.sheet.specs.Rules.{from, gates}
+use Rattle.sheet.specs.paper.Rules.{from, gates}
 use Rattle.judging.specs.declared.Judged.{Judged}
 use Rattle.judging.specs.declared.Judged.the-variants as judged
 use Rattle.judging.specs.Gates.{isKept, Lined, JudgeAsked, GateAsked, JudgesHeld, GatesTried, GatesJudged}

@@ -12,19 +12,19 @@ use Rattle.storage.specs.Entries.{Beyond}
 use Rattle.storage.specs.Lists.{sizeAt, listAt}
 use Rattle.storage.specs.Roles.{areaIn, endsIn}
 use Rattle.storage.proofs.Clears.{beyond-same, beyond-then}
-use Rattle.theory.specs.Evidence.{joined}
+use Rattle.theory.specs.paper.Evidence.{joined}
 use Rattle.theory.proofs.Tests.{_and-then_, decides-le, decides-itself}
-use Rattle.drawing.specs.Bytes.{numberAt}
+use Rattle.drawing.specs.paper.Bytes.{numberAt, idsAt}
 use Rattle.drawing.proofs.SoundFields.{neither}
-use Rattle.theory.specs.Lists.{isMember}
-use Rattle.sheet.specs.Shape.{idsAt, pathEnd, pathsAt, pathsUse, someEmpty, Below}
+use Rattle.theory.specs.Members.{isMember}
+use Rattle.sheet.specs.paper.Shape.{pathEnd, pathsAt, pathsUse, someEmpty}
+use Rattle.sheet.specs.Shape.{Below}
 use Rattle.judging.specs.Paths.{isMarked, afterPath, goesOn, isPath, arePaths, Taken, PathRoom, IdsStand, GoesAsked, PathAsked, PathTold, PathsStand, PathsAsked, PathsTold}
 use Rattle.judging.proofs.Taking.{taken-area, taken-ends, taken-size, taken-beyond}
 
 -- Ids
 
 ids-cons : (s : List ℕ) (at width size : ℕ) → 1 ≤ size → idsAt s at width size ≡ numberAt s at width ∷ idsAt s (at + width) width (size - 1)
-unfolding idsAt
 ids-cons s at width zero some = absurd (omega arith)
 ids-cons s at width (suc size) some =
     let one : size ≡ suc size - 1 = omega arith in
@@ -165,7 +165,7 @@ module _ {fanins : List ℕ} {u₀ : ℕ} {s : List ℕ} {at₀ width size₀ : 
 
     pub going-ends : size ≡ 0 → {r : Bool} → r ≡ isMarked (endsIn roles) u →
         PathTold (goesOn fanins (endsIn roles₀) (areaIn roles₀) u₀ (idsAt s at₀ width size₀)) (idsAt s at₀ width size₀) roles₀ r roles
-    unfolding goesOn afterPath idsAt
+    unfolding goesOn afterPath
     going-ends none {r} e =
         let ids-none : idsAt s at width size ≡ [] = rw none in
         record {
@@ -241,7 +241,6 @@ module _ {fanins s : List ℕ} {at width size : ℕ} {roles : List ℕ} (inputs 
 -- Paths, one after the other
 
 length-ids : (s : List ℕ) (at width size : ℕ) → length (idsAt s at width size) ≡ size
-unfolding idsAt
 length-ids s at width zero = refl
 length-ids s at width (suc size) = ap suc (length-ids s (at + width) width size)
 

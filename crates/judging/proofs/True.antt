@@ -13,12 +13,12 @@ use lib.Seq.{getD-set-same, getD-set-other}
 use Rattle.storage.specs.Drawings.{netIn}
 use Rattle.storage.specs.Marks.{Marks}
 use Rattle.storage.specs.Lists.{listAt}
-use Rattle.theory.specs.Net.{Net, Input}
-use Rattle.theory.specs.Lists.{NoRepeats}
-use Rattle.theory.specs.Evidence.{Run, TruePath, joined}
+use Rattle.theory.specs.paper.Net.{Net, Input}
+use Rattle.theory.specs.paper.Lists.{NoRepeats}
+use Rattle.theory.specs.paper.Evidence.{Run, TruePath, joined}
 use Rattle.theory.proofs.Tests.{Decides, decides-as, _and-then_, decides-lt, decides-equal, decides-member}
 use Rattle.theory.proofs.Members.{no-repeats-after, no-repeats-apart, no-repeats-join, no-repeats-first}
-use Rattle.theory.specs.Lists.{isMember}
+use Rattle.theory.specs.Members.{isMember}
 use Rattle.area.specs.Area.{InArea, IsEnd}
 use Rattle.storage.proofs.Drawings.{fanins-in}
 use Rattle.storage.proofs.InMarks.{marks-same}

@@ -5,21 +5,22 @@ use mathlib.Core.Bool.{Bool, true, false}
 use mathlib.Core.Logic.{_⊎_}
 use mathlib.Core.List.{List, map, flatMap, List·Memᴰ}
 use lib.ListN.{length, drop}
-use Rattle.theory.specs.Net.{Net, Gate}
-use Rattle.theory.specs.Lists.{NoRepeats, greatest}
-use Rattle.theory.specs.Evidence.{peak, TruePath, joined}
+use Rattle.theory.specs.paper.Net.{Net, Gate}
+use Rattle.theory.specs.paper.Lists.{NoRepeats, greatest}
+use Rattle.theory.specs.paper.Evidence.{peak, TruePath, joined}
 use Rattle.storage.specs.Entries.{cleared, Beyond}
 use Rattle.storage.specs.Marks.{Tells}
 use Rattle.storage.specs.Lists.{sizeAt, listAt}
 use Rattle.storage.specs.Drawings.{netIn, Arranged}
-use Rattle.drawing.specs.Bytes.{numberAt}
+use Rattle.drawing.specs.paper.Bytes.{numberAt}
 use Rattle.walking.specs.Promises.{WalkRoom}
 use Rattle.area.specs.Area.{labelIn}
 use Rattle.sheet.specs.declared.Form.{Form}
 use Rattle.sheet.specs.declared.Ruling.the-variants.{Sound}
-use Rattle.sheet.specs.Sheet.{Line, Sheet}
-use Rattle.sheet.specs.Shape.{pathsAt, linePaths, lineRuling, dueFrom}
-use Rattle.sheet.specs.Rules.{Rule, Found, FirstBroken, Keeps, lineOfNode, gateRules, gates}
+use Rattle.sheet.specs.paper.Sheet.{Line, Sheet}
+use Rattle.sheet.specs.paper.Shape.{pathsAt, linePaths, lineRuling}
+use Rattle.sheet.specs.Shape.{dueFrom}
+use Rattle.sheet.specs.paper.Rules.{Rule, Found, FirstBroken, Keeps, lineOfNode, gateRules, gates}
 use Rattle.sheet.specs.Arrays.{HoldsLines, HoldsPlaces}
 use Rattle.judging.specs.declared.Judged.{Judged}
 use Rattle.judging.specs.declared.Judged.the-variants as judged
@@ -32,14 +33,14 @@ pathsPlace form s at = linePaths (dueFrom form 0 0 0 0) s at
 abbrev pub linePathsIn : Form → List ℕ → ℕ → List (List ℕ)
 linePathsIn form s at = pathsAt s (pathsPlace form s at + 1) (form .width) (numberAt s (pathsPlace form s at) 1)
 
--- 25
+-- Rule 25: the cut
 
 pub record CutAsked (inputs nodes k : ℕ) (fanins order : List ℕ) (t : ℕ) (cuts roles : List ℕ) : Type 0 where
   pub walk : WalkRoom inputs nodes k fanins order t (drop (7 * t + 1) cuts) (sizeAt cuts t) roles
   pub long : 7 * t + 7 ≤ length cuts
   pub six : sizeAt cuts t ≤ 6
 
--- 26
+-- Rule 26: the label
 
 pub record LabelAsked (labels cuts : List ℕ) (t : ℕ) : Type 0 where
   pub labelled : t < length labels
@@ -52,7 +53,7 @@ pub record LabelRight (lab : ℕ → ℕ) (leaves : List ℕ) (p t : ℕ) : Type
   pub shown : lab t ≡ suc (greatest (map lab leaves))
   pub near : (lab t ≡ p) ⊎ (lab t ≡ suc p)
 
--- 27
+-- Rule 27: the evidence
 
 -- A gate of a drawing with its order, its p by the labels that an array holds, and room for roles.
 pub record AtGate (inputs nodes k : ℕ) (fanins order : List ℕ) (t : ℕ) (labels : List ℕ) (p : ℕ) (roles : List ℕ) : Type 0 where

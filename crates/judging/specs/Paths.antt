@@ -6,13 +6,15 @@ use mathlib.Core.Bool.{Bool, true, false, _&&_}
 use mathlib.Core.List.{List, [], _∷_}
 use lib.ListN.{length, getD, set}
 use lib.Dec.{ltb, eqb}
-use Rattle.theory.specs.Lists.{isMember}
-use Rattle.theory.specs.Evidence.{joined}
+use Rattle.theory.specs.Members.{isMember}
+use Rattle.theory.specs.paper.Evidence.{joined}
 use Rattle.storage.specs.Entries.{Beyond}
 use Rattle.storage.specs.Lists.{listAt}
 use Rattle.storage.specs.Roles.{areaBit, endBit, areaIn, endsIn}
 use Rattle.storage.specs.Drawings.{Fed}
-use Rattle.sheet.specs.Shape.{idsAt, pathsAt, pathsUse, someEmpty, Below}
+use Rattle.drawing.specs.paper.Bytes.{idsAt}
+use Rattle.sheet.specs.paper.Shape.{pathsAt, pathsUse, someEmpty}
+use Rattle.sheet.specs.Shape.{Below}
 
 abbrev pub isMarked : List ℕ → ℕ → Bool
 isMarked marks v = eqb (getD marks v 0) 1

@@ -9,7 +9,7 @@ use storage::marks::clear;
 ghost use mathlib.Core.Path.{_≡_};
 ghost use mathlib.Core.List.{[], _∷_};
 ghost use Rattle.storage.specs.Drawings.{netIn};
-ghost use Rattle.sheet.specs.Rules.{gates};
+ghost use Rattle.sheet.specs.paper.Rules.{gates};
 ghost use Rattle.judging.specs.Gates.{isKept, linedOf, JudgeAsked, GateAsked, GatesTried, GatesJudged};
 
 // The first rule that is not kept, with its gate.

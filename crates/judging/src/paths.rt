@@ -4,20 +4,21 @@ use drawing::bytes::number_at;
 use storage::Node;
 use storage::lists::entry_at;
 use storage::lists::size_at;
-use storage::roles::AREA;
 use storage::roles::END;
 use storage::roles::TAKEN;
 use storage::roles::TAKEN_END;
+use storage::roles::is_end;
+use storage::roles::is_free;
 ghost use mathlib.Core.Path.{_≡_};
 ghost use mathlib.Core.Bool.{true, _&&_};
 ghost use Prim.Native.Nat.{_+_, _*_, _≤_, _<_};
 ghost use lib.ListN.{length};
 ghost use Rattle.storage.specs.Lists.{sizeAt, listAt};
 ghost use Rattle.storage.specs.Roles.{areaIn, endsIn};
-ghost use Rattle.drawing.specs.Bytes.{numberAt};
-ghost use Rattle.theory.specs.Evidence.{joined};
-ghost use Rattle.theory.specs.Lists.{isMember};
-ghost use Rattle.sheet.specs.Shape.{idsAt, pathsAt};
+ghost use Rattle.drawing.specs.paper.Bytes.{numberAt, idsAt};
+ghost use Rattle.theory.specs.paper.Evidence.{joined};
+ghost use Rattle.theory.specs.Members.{isMember};
+ghost use Rattle.sheet.specs.paper.Shape.{pathsAt};
 ghost use Rattle.judging.specs.Paths.{isMarked, goesOn, isPath, arePaths, Taken, GoesAsked, PathAsked, PathTold, PathsAsked, PathsTold};
 
 // The id that stands at a place.
@@ -30,32 +31,6 @@ fn id_at(s: &[u8], at: usize, width: usize) -> Node
     Node {
         id: number_at(s, at, width) as u16,
     }
-}
-
-// May a path take the node: does it lie in the area, and has no path taken it?
-fn is_free(roles: &[u8], node: Node) -> bool
-    requires { ⌜ node .id < length (now roles) ⌝ }
-    ensures { λ r. ⌜ r ≡ isMarked (areaIn (now (roles .entry))) (node .id) ⌝ }
-{
-    let v = node.id as usize;
-    let role = roles[v];
-    if role == AREA {
-        return true;
-    }
-    role == END
-}
-
-// May a path end at the node?
-fn is_end(roles: &[u8], node: Node) -> bool
-    requires { ⌜ node .id < length (now roles) ⌝ }
-    ensures { λ r. ⌜ r ≡ isMarked (endsIn (now (roles .entry))) (node .id) ⌝ }
-{
-    let v = node.id as usize;
-    let role = roles[v];
-    if role == END {
-        return true;
-    }
-    role == TAKEN_END
 }
 
 // A path takes the node.

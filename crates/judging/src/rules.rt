@@ -19,8 +19,8 @@ ghost use Rattle.storage.specs.Marks.{Tells};
 ghost use Rattle.storage.specs.Lists.{listAt};
 ghost use Rattle.walking.specs.Promises.{CutRuled};
 ghost use Rattle.area.specs.Area.{labelIn};
-ghost use Rattle.sheet.specs.Shape.{pathsAt};
-ghost use Rattle.sheet.specs.Rules.{PathsKept};
+ghost use Rattle.sheet.specs.paper.Shape.{pathsAt};
+ghost use Rattle.sheet.specs.paper.Rules.{PathsKept};
 ghost use Rattle.judging.specs.Gates.{pathsPlace, linePathsIn, CutAsked, LabelAsked, LabelRight, EvidenceAsked, TruePaths, Told, PathsRuleAsked};
 
 // 25: are the leaves of the gate's line a cut of the gate?

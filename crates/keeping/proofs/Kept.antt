@@ -5,22 +5,21 @@ use native.Mathlib.Omega.{arith}
 use mathlib.Core.Path.{_≡_, refl, sym, _∙_, subst}
 use mathlib.Core.Bool.{true}
 use mathlib.Core.List.{List, [], _∷_, _++_, map, flatMap, List·Memᴰ, List·Memᴰ·head, List·Memᴰ·tail, Memᴰ·append-left, Memᴰ·append-right}
-use Rattle.theory.specs.Net.{Net, Gate}
-use Rattle.theory.specs.Sound.{Bounded, Ranked}
-use Rattle.theory.specs.Walk.{Cut}
-use Rattle.theory.specs.Cover.{Luts, Cover, Label}
-use Rattle.theory.specs.Lookup.{ConeTable}
-use Rattle.theory.specs.Lists.{greatest}
-use Rattle.theory.specs.Evidence.{Lines}
+use Rattle.theory.specs.paper.Net.{Net, Gate}
+use Rattle.theory.specs.paper.Sound.{Bounded, Ranked}
+use Rattle.theory.specs.paper.Walk.{Cut}
+use Rattle.theory.specs.paper.Cover.{Luts, Cover, Label}
+use Rattle.theory.specs.paper.Lookup.{ConeTable}
+use Rattle.theory.specs.paper.Lists.{greatest}
+use Rattle.theory.specs.Lines.{Lines, TablesFit}
 use Rattle.theory.proofs.Rules.{lines-are-labels}
 use Rattle.theory.proofs.MappersCovers.{no-cover-shallower}
-use Rattle.theory.specs.Lookup.{TablesFit}
 use Rattle.theory.proofs.Computes.{lutValue, lutValue-obeys, lutValue-inputs, luts-compute-outputs}
 use Rattle.theory.proofs.Valuations.{valueOf, valueOf-obeys}
-use Rattle.sheet.specs.Sheet.{Lut, Sheet, Roots}
-use Rattle.sheet.specs.Rules.{Rule, Keeps, LabelKept, PathsKept, CoverKept, DepthKept, gateRules, lutRules, gates, rulesOf, lineOfNode, labelsOf, lutsOf, leavesListed, tableListed}
+use Rattle.sheet.specs.paper.Sheet.{Lut, Sheet, Roots}
+use Rattle.sheet.specs.paper.Rules.{Rule, Keeps, LabelKept, PathsKept, CoverKept, DepthKept, gateRules, lutRules, gates, rulesOf, lineOfNode, labelsOf, lutsOf, leavesListed, tableListed}
 use Rattle.sheet.proofs.Firsts.{member-from}
-use Rattle.keeping.specs.Right.{KeepsAll, Computes, Right}
+use Rattle.keeping.specs.paper.Right.{KeepsRules, Computes, Right}
 use Rattle.sheet.proofs.Listed.{ListedLut, listed-lut, root-gate}
 use Rattle.keeping.proofs.Listed.{label-at-input, member-flat, member-map}
 
@@ -58,7 +57,7 @@ module _ (net : Net) (sheet : Sheet) where
 
 module _ (net : Net) (tables : ℕ → ℕ) (k : ℕ) (outputs : List ℕ) (sheet : Sheet) (bounded : Bounded net k) (ranked : Ranked net)
     (nodes : (v : ℕ) → List·Memᴰ v outputs → v < net .nodes) (roots : Roots (net .nodes) (net .inputs) (sheet .luts))
-    (kept : KeepsAll net tables k outputs sheet) where
+    (kept : KeepsRules net tables k outputs sheet) where
   -- the lines
   lab : ℕ → ℕ
   lab = labelsOf (net .inputs) (sheet .lines)

@@ -5,3 +5,4 @@ pub mod Mappers
 pub mod Shaped
 pub mod One
 pub mod Tables
+pub mod Printed

@@ -7,8 +7,8 @@ use mathlib.Core.Bool.{Bool, cond}
 use mathlib.Core.List.{List, [], _∷_, map, flatMap, List·Memᴰ, List·Memᴰ·head, List·Memᴰ·tail, List·Memᴰ·not-nil, List·Memᴰ·cases-cons, List·Memᴰ·append-cases, Memᴰ·append-left, Memᴰ·append-right}
 use borrow.Author.Tests.{lt-ltb, le-ltb}
 use lib.ListN.{getD}
-use Rattle.sheet.specs.Sheet.{Line, noLine}
-use Rattle.sheet.specs.Rules.{lineOfNode, labelsOf}
+use Rattle.sheet.specs.paper.Sheet.{Line, noLine}
+use Rattle.sheet.specs.paper.Rules.{lineOfNode, labelsOf}
 
 module _ {A B : Type 0} (f : A → List B) where
   pub member-flat : {b : B} {a : A} {l : List A} → List·Memᴰ a l → List·Memᴰ b (f a) → List·Memᴰ b (flatMap f l)

@@ -6,13 +6,13 @@ use native.Mathlib.Decide.{ℕ-discrete, decLe}
 use mathlib.Core.Path.{_≡_, refl, sym, subst}
 use mathlib.Core.List.{List, [], _∷_, List·Memᴰ, List·Memᴰ·head, List·Memᴰ·tail}
 use lib.ListN.{length, getD}
-use Rattle.theory.specs.Net.{Net, Gate}
-use Rattle.theory.specs.Walk.{Cut}
-use Rattle.theory.specs.Evidence.{peak, Owes}
-use Rattle.sheet.specs.Sheet.{Line, Lut, Sheet, noLut}
-use Rattle.sheet.specs.Rules.{Rule, Keeps, PathsKept, lineOfNode, labelsOf}
-use Rattle.sheet.specs.Longest.{Backed, Kept}
-use Rattle.keeping.specs.Right.{KeepsAll}
+use Rattle.theory.specs.paper.Net.{Net, Gate}
+use Rattle.theory.specs.paper.Walk.{Cut}
+use Rattle.theory.specs.paper.Evidence.{peak, Owes}
+use Rattle.sheet.specs.paper.Sheet.{Line, Lut, Sheet}
+use Rattle.sheet.specs.paper.Rules.{Rule, Keeps, PathsKept, lineOfNode, labelsOf}
+use Rattle.sheet.specs.Longest.{Backed, Kept, noLut}
+use Rattle.keeping.specs.paper.Right.{KeepsRules}
 use Rattle.keeping.proofs.Listed.{label-at-input, line-at}
 use Rattle.keeping.proofs.Kept.{gate-rule, lut-rule}
 
@@ -35,7 +35,7 @@ backed {net} {k} {lab} {t} {paths} kept = by (ℕ-discrete (lab t) (suc (peak ne
     by (yes above) (no less) = none (kept .not-due (λ (owes : Owes net lab t). less (owes .some)))
 
 module _ (net : Net) (tables : ℕ → ℕ) (k : ℕ) (outputs : List ℕ) (sheet : Sheet) (gates : net .inputs + length (sheet .lines) ≡ net .nodes)
-    (few : length (sheet .luts) ≤ length (sheet .lines)) (kept : KeepsAll net tables k outputs sheet) where
+    (few : length (sheet .luts) ≤ length (sheet .lines)) (kept : KeepsRules net tables k outputs sheet) where
   lab : ℕ → ℕ
   lab = labelsOf (net .inputs) (sheet .lines)
 

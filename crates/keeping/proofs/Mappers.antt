@@ -6,23 +6,23 @@ use mathlib.Core.Path.{_≡_, sym, ap, _∙_, subst}
 use mathlib.Core.Logic.{_⊎_, ⊎-elim}
 use mathlib.Core.Bool.{true}
 use mathlib.Core.List.{List, [], _∷_, _++_, map, flatMap, List·Memᴰ, List·Memᴰ·cases-cons, List·Memᴰ·append-cases, List·Memᴰ·eq-of-singleton}
-use Rattle.theory.specs.Net.{Net, Gate, Input}
-use Rattle.theory.specs.Sound.{Bounded, Ranked}
-use Rattle.theory.specs.Walk.{Cut}
-use Rattle.theory.specs.Lists.{greatest}
-use Rattle.theory.specs.Cover.{Luts, Wanted, Cover, Depth, Depths, Label}
-use Rattle.theory.specs.Lookup.{ConeTable}
+use Rattle.theory.specs.paper.Net.{Net, Gate, Input}
+use Rattle.theory.specs.paper.Sound.{Bounded, Ranked}
+use Rattle.theory.specs.paper.Walk.{Cut}
+use Rattle.theory.specs.paper.Lists.{greatest}
+use Rattle.theory.specs.paper.Cover.{Luts, Wanted, Cover, Depth, Depths, Label}
+use Rattle.theory.specs.paper.Lookup.{ConeTable}
 use Rattle.theory.proofs.Walks.{input-or-gate}
 use Rattle.theory.proofs.FlowMap.{Labels, label-peaked}
 use Rattle.theory.proofs.MappersCuts.{mappers-cut-is-cut, mappers-cut-shows-label}
 use Rattle.theory.proofs.Depths.{Placed}
 use Rattle.theory.proofs.MappersCovers.{depth-is-label, cover-depth-is-label}
-use Rattle.covering.specs.Covers.{Needed}
-use Rattle.sheet.specs.Sheet.{Lut, Sheet}
-use Rattle.sheet.specs.Rules.{Rule, Keeps, LabelKept, PathsKept, CoverKept, DepthKept, gateRules, lutRules, gates, lineOfNode, labelsOf, lutsOf, tableListed}
+use Rattle.covering.specs.paper.Needed.{Needed}
+use Rattle.sheet.specs.paper.Sheet.{Lut, Sheet}
+use Rattle.sheet.specs.paper.Rules.{Rule, Keeps, LabelKept, PathsKept, CoverKept, DepthKept, gateRules, lutRules, gates, lineOfNode, labelsOf, lutsOf, tableListed}
 use Rattle.sheet.proofs.Firsts.{from-member}
-use Rattle.keeping.specs.Right.{KeepsAll}
-use Rattle.keeping.specs.Mappers.{chosenBy, SheetWith}
+use Rattle.keeping.specs.paper.Right.{KeepsRules}
+use Rattle.keeping.specs.paper.Mappers.{chosenBy, SheetWith}
 use Rattle.sheet.proofs.Listed.{ListedLut, listed-lut, root-gate, member-listed}
 use Rattle.keeping.proofs.Listed.{label-at-input, flat-member, map-member}
 
@@ -99,7 +99,7 @@ module _ {Asked : (ℕ → ℕ) → ℕ → List (List ℕ) → Type 0} (net : N
   root-shows : (r : ℕ) → luts .root r ≡ true → lab r ≡ suc (greatest (map lab (luts .leaves r)))
   root-shows r root = shows (root-is-gate root) ∙ ap (λ (l : List ℕ). suc (greatest (map lab l))) (sym (leaves-same r root))
 
-  depth-kept : DepthKept net lab outputs luts (sheet .depth)
+  pub depth-kept : DepthKept net (labelsOf (net .inputs) (sheet .lines)) outputs (lutsOf (sheet .luts)) (sheet .depth)
   unfolding luts lab
   depth-kept =
       record {
@@ -170,7 +170,7 @@ module _ {Asked : (ℕ → ℕ) → ℕ → List (List ℕ) → Type 0} (net : N
   unfolding Kept Keeps luts lab
   by-depth r m = subst (Keeps net tables k outputs sheet) (sym (List·Memᴰ·eq-of-singleton m)) depth-kept
 
-  pub mappers-sheet-keeps : Evident → KeepsAll net tables k outputs sheet
+  pub mappers-sheet-keeps : Evident → KeepsRules net tables k outputs sheet
   unfolding Kept
   mappers-sheet-keeps evident =
       let by-gates : All (flatMap (gateRules (net .inputs) (sheet .lines)) (gates net)) =

@@ -11,22 +11,22 @@ use mathlib.Core.List.{List, [], _∷_, map, List·Memᴰ, List·Memᴰ·head, L
 use borrow.Author.Tests.{lt-ltb, le-ltb, ne-eqb}
 use lib.ListN.{length, getD, List·getD-eq-default}
 use lib.Dec.{eqb}
-use Rattle.theory.specs.Net.{Net, Gate}
-use Rattle.theory.specs.Sound.{Bounded, Ranked}
-use Rattle.theory.specs.Lists.{greatest}
-use Rattle.theory.specs.Evidence.{MappersCut}
-use Rattle.theory.specs.Lookup.{ConeTable}
+use Rattle.theory.specs.paper.Net.{Net, Gate}
+use Rattle.theory.specs.paper.Sound.{Bounded, Ranked}
+use Rattle.theory.specs.paper.Lists.{greatest}
+use Rattle.theory.specs.paper.Evidence.{MappersCut}
+use Rattle.theory.specs.paper.Lookup.{ConeTable}
 use Rattle.theory.proofs.Labels.{label-is-one}
 use Rattle.theory.proofs.MappersCuts.{mappers-cut-is-one}
 use Rattle.theory.proofs.MappersCovers.{same-test}
 use Rattle.theory.proofs.Cones.{cone-table-only}
-use Rattle.covering.specs.Covers.{Needed}
-use Rattle.sheet.specs.Sheet.{Line, Lut, Sheet, Roots, noLine}
-use Rattle.sheet.specs.Rules.{lineOfNode, labelsOf, isListed, leavesListed, tableListed}
-use Rattle.drawing.specs.Table.{Table}
-use Rattle.keeping.specs.Mappers.{chosenBy, SheetWith}
-use Rattle.keeping.specs.Same.{SameButEvidence}
-use Rattle.keeping.specs.Printed.{listedLut, listedOutput, mappingOf}
+use Rattle.covering.specs.paper.Needed.{Needed}
+use Rattle.sheet.specs.paper.Sheet.{Line, Lut, Sheet, Roots, noLine}
+use Rattle.sheet.specs.paper.Rules.{lineOfNode, labelsOf, isListed, leavesListed, tableListed}
+use Rattle.drawing.specs.paper.Table.{Table}
+use Rattle.keeping.specs.paper.Mappers.{chosenBy, SheetWith}
+use Rattle.keeping.specs.paper.Same.{SameButEvidence}
+use Rattle.keeping.specs.paper.Printed.{listedLut, listedOutput, mappingOf}
 use Rattle.sheet.proofs.Listed.{ListedLut, listed-lut, root-gate, Listed, member-listed}
 use Rattle.keeping.proofs.Mappers.{mappers-cover}
 

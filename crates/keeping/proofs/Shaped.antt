@@ -8,21 +8,21 @@ use mathlib.Core.Logic.{⊎-elim}
 use mathlib.Core.List.{List, map, List·Memᴰ}
 use lib.ListN.{length, getD}
 use lib.Pow.{pow-mono}
-use Rattle.theory.specs.Net.{Net, Gate, Input}
-use Rattle.theory.specs.Sound.{Bounded, Ranked}
-use Rattle.theory.specs.Lists.{greatest}
-use Rattle.theory.specs.Evidence.{peak}
+use Rattle.theory.specs.paper.Net.{Net, Gate, Input}
+use Rattle.theory.specs.paper.Sound.{Bounded, Ranked}
+use Rattle.theory.specs.paper.Lists.{greatest}
+use Rattle.theory.specs.paper.Evidence.{peak}
 use Rattle.theory.proofs.Ranks.{by-rank}
 use Rattle.theory.proofs.Members.{greatest-at-most, some-member}
 use Rattle.theory.proofs.Walks.{input-or-gate}
 use Rattle.theory.proofs.FlowMap.{Labels, label-peaked, label-positive, labels-at-inputs}
 use Rattle.sheet.specs.declared.Form.{Form}
-use Rattle.sheet.specs.Sheet.{Line, Lut, Sheet, Roots, noLut}
-use Rattle.sheet.specs.Rules.{labelsOf}
-use Rattle.sheet.specs.Longest.{Drawing, Kept}
+use Rattle.sheet.specs.paper.Sheet.{Line, Lut, Sheet, Roots}
+use Rattle.sheet.specs.paper.Rules.{labelsOf}
+use Rattle.sheet.specs.Longest.{Drawing, Kept, noLut}
 use Rattle.sheet.specs.Shape.{Shaped}
 use Rattle.sheet.proofs.Shapes.{dueFor, Fitting, Numbered, sheet-shaped}
-use Rattle.keeping.specs.Mappers.{MappersSheet}
+use Rattle.keeping.specs.paper.Mappers.{MappersSheet}
 use Rattle.sheet.proofs.Listed.{root-gate}
 use Rattle.keeping.proofs.Longest.{lut-member, rules-bound}
 use Rattle.keeping.proofs.Mappers.{mappers-labels, lut-cut, lut-function, mappers-sheet-keeps}

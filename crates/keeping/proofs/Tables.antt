@@ -10,18 +10,17 @@ use lib.ListN.{getD, replicate, List·getD-eq-default}
 use Rattle.storage.specs.Drawings.{Ordered}
 use Rattle.storage.proofs.Entries.{place-of}
 use Rattle.storage.specs.Lists.{Place}
-use Rattle.theory.specs.Net.{Net, Gate, Input}
-use Rattle.theory.specs.Walk.{Loop}
-use Rattle.theory.specs.Sound.{Bounded, Ranked}
+use Rattle.theory.specs.paper.Net.{Gate, Input}
+use Rattle.theory.specs.paper.Walk.{NoLoop}
+use Rattle.theory.specs.paper.Sound.{Bounded, Ranked}
 use Rattle.theory.proofs.Walks.{input-or-gate, no-loop}
 use Rattle.drawing.specs.declared.Verdict.the-variants.{Sound}
-use Rattle.drawing.specs.Fields.{headK, headI}
-use Rattle.drawing.specs.Table.{GateLine, netOf, noGate}
-use Rattle.drawing.specs.Reading.{Arrays, arraysOf, enough, found, tableOf, nodesOf}
+use Rattle.drawing.specs.paper.Fields.{headK, headI}
+use Rattle.drawing.specs.paper.Table.{GateLine, netOf, noGate}
+use Rattle.drawing.specs.paper.Reading.{found, tableOf, nodesOf}
+use Rattle.drawing.specs.Reading.{Arrays, arraysOf, enough}
 use Rattle.drawing.proofs.SoundTables.{SoundTable, table-sound}
 use Rattle.drawing.proofs.Held.{whole-holds}
-use Rattle.walking.specs.declared.Ordering.the-variants.{Whole}
-use Rattle.walking.specs.Promises.{LoopRuling}
 use Rattle.walking.specs.Sweeps.{orderOf}
 use Rattle.walking.proofs.Orders.{order-whole, rankIn, rank-input, rank-at, ranked}
 use Rattle.sheet.specs.Longest.{Drawing}
@@ -32,9 +31,6 @@ some-arrays = arraysOf (replicate 1344 0) (replicate 192 0) (replicate 64 0)
 some-enough : enough some-arrays ≡ true
 unfolding some-arrays
 some-enough = refl
-
-pub no-loops : {net : Net} → LoopRuling net Whole → (g : ℕ) → Gate net g → Loop net g → ⊥
-no-loops (LoopRuling.none none) = none
 
 pub inputs-are : (s : List ℕ) → headI s ≡ netOf (tableOf s) .inputs
 unfolding netOf
@@ -64,15 +60,15 @@ module _ (s : List ℕ) (whole : found s .verdict ≡ Sound) where
   pub k-few : headK s ≤ 6
   k-few = sound .head .k-most
 
-  out : (v : ℕ) → netOf (tableOf s) .nodes ≤ v → netOf (tableOf s) .fanins v ≡ []
+  pub out : (v : ℕ) → netOf (tableOf s) .nodes ≤ v → netOf (tableOf s) .fanins v ≡ []
   unfolding netOf
   out v beyond =
       ap (λ (b : Bool). cond b noGate (getD (found s .gates) (v - headI s) noGate) .fanins) (le-ltb v (headI s) (omega arith))
       ∙ ap (λ (g : GateLine). g .fanins) (List·getD-eq-default (found s .gates) noGate (omega arith))
 
-  module _ (none : LoopRuling (netOf (tableOf s)) Whole) where
+  module _ (none : NoLoop (netOf (tableOf s))) where
     ordered : Ordered (netOf (tableOf s)) (orderOf (netOf (tableOf s)))
-    ordered = order-whole bounded (no-loops none)
+    ordered = order-whole bounded none
 
     pub table-ranked : Ranked (netOf (tableOf s))
     table-ranked = ranked ordered bounded out

@@ -1,4 +1,1 @@
-pub mod Right
-pub mod Mappers
-pub mod Same
-pub mod Printed
+pub mod paper

@@ -3,9 +3,10 @@ use Prim.Native.Nat.{ℕ, suc}
 use native.Mathlib.Omega.{arith}
 use mathlib.Core.Path.{_≡_, sym, ap, _∙_}
 use mathlib.Core.List.{List}
-use Rattle.theory.specs.Net.{Net}
-use Rattle.theory.specs.Walk.{Behind}
-use Rattle.theory.specs.Evidence.{Outside, LeastCut, MappersCut, NeverFalls}
+use Rattle.theory.specs.paper.Net.{Net}
+use Rattle.theory.specs.paper.Walk.{Behind}
+use Rattle.theory.specs.paper.Evidence.{Outside, LeastCut, MappersCut}
+use Rattle.theory.specs.Lines.{NeverFalls}
 use Rattle.theory.proofs.Walks.{Tight, behind-walked}
 use Rattle.theory.proofs.Rules.{peak-agrees, d-agrees}
 

@@ -9,12 +9,13 @@ use mathlib.Core.List.{List, [], List·Memᴰ}
 use lib.ListN.{length, getD}
 use Rattle.storage.specs.Drawings.{Ordered}
 use Rattle.storage.proofs.Entries.{member-at, one-place}
-use Rattle.theory.specs.Net.{Net, Gate, Input}
-use Rattle.theory.specs.Sound.{Bounded, Ranked}
-use Rattle.theory.specs.Lists.{NoRepeats}
-use Rattle.theory.specs.Walk.{Walked, Behind}
-use Rattle.theory.specs.Cover.{Label}
-use Rattle.theory.specs.Evidence.{peak, LeastCut, MappersCut, NeverFalls}
+use Rattle.theory.specs.paper.Net.{Net, Gate, Input}
+use Rattle.theory.specs.paper.Sound.{Bounded, Ranked}
+use Rattle.theory.specs.paper.Lists.{NoRepeats}
+use Rattle.theory.specs.paper.Walk.{Walked, Behind}
+use Rattle.theory.specs.paper.Cover.{Label}
+use Rattle.theory.specs.paper.Evidence.{peak, LeastCut, MappersCut}
+use Rattle.theory.specs.Lines.{NeverFalls}
 use Rattle.theory.proofs.Walks.{Tight, cut-stops, reader-is-gate, walked-node, met-node, input-or-gate, gate-no-input}
 use Rattle.theory.proofs.Labels.{label-is-one, rules-are-labels}
 use Rattle.theory.proofs.Duality.{evidence-is-tight}

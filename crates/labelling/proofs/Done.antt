@@ -9,10 +9,10 @@ use mathlib.Core.List.{List, [], List·Memᴰ}
 use lib.ListN.{length, getD}
 use Rattle.storage.specs.Drawings.{Ordered}
 use Rattle.storage.proofs.Entries.{place-of}
-use Rattle.theory.specs.Net.{Net, Gate, Input}
-use Rattle.theory.specs.Sound.{Bounded, Ranked}
-use Rattle.theory.specs.Cover.{Label}
-use Rattle.theory.specs.Evidence.{peak, MappersCut}
+use Rattle.theory.specs.paper.Net.{Net, Gate, Input}
+use Rattle.theory.specs.paper.Sound.{Bounded, Ranked}
+use Rattle.theory.specs.paper.Cover.{Label}
+use Rattle.theory.specs.paper.Evidence.{peak, MappersCut}
 use Rattle.theory.proofs.Walks.{input-or-gate}
 use Rattle.theory.proofs.Rules.{peak-agrees}
 use Rattle.theory.proofs.Members.{greatest-at-most}

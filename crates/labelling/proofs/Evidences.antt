@@ -7,7 +7,7 @@ use Rattle.storage.specs.Drawings.{netIn, Fed}
 use Rattle.storage.specs.Entries.{cleared}
 use Rattle.storage.proofs.Clears.{cleared-used}
 use Rattle.storage.proofs.Drawings.{fed-in}
-use Rattle.theory.specs.Sound.{Ranked}
+use Rattle.theory.specs.paper.Sound.{Ranked}
 use Rattle.theory.proofs.FlowMap.{labels-never-fall}
 use Rattle.area.specs.Area.{labelIn, PeakIn}
 use Rattle.flow.specs.declared.Flow.{Flow}

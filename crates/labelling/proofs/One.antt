@@ -12,8 +12,8 @@ use Rattle.storage.specs.Drawings.{netIn}
 use Rattle.storage.specs.Lists.{sizeAt, entryAt, listAt}
 use Rattle.storage.proofs.Clears.{beyond-entry}
 use Rattle.storage.proofs.InLists.{list-size, list-entry}
-use Rattle.theory.specs.Net.{Net, Gate, Input}
-use Rattle.theory.specs.Sound.{Bounded, Ranked}
+use Rattle.theory.specs.paper.Net.{Net, Gate, Input}
+use Rattle.theory.specs.paper.Sound.{Bounded, Ranked}
 use Rattle.theory.proofs.Walks.{input-or-gate}
 use Rattle.theory.proofs.Labels.{label-is-one}
 use Rattle.theory.proofs.MappersCuts.{mappers-cut-is-one}

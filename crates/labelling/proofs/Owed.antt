@@ -3,9 +3,9 @@ use Prim.Native.Nat.{ℕ, _<_}
 use native.Mathlib.Omega.{arith}
 use mathlib.Core.List.{List, []}
 use Rattle.storage.specs.Drawings.{netIn, Arranged}
-use Rattle.theory.specs.Net.{Net, Gate}
-use Rattle.theory.specs.Sound.{Bounded, Ranked}
-use Rattle.theory.specs.Evidence.{LeastCut, Owes}
+use Rattle.theory.specs.paper.Net.{Net, Gate}
+use Rattle.theory.specs.paper.Sound.{Bounded, Ranked}
+use Rattle.theory.specs.paper.Evidence.{LeastCut, Owes}
 use Rattle.theory.proofs.FlowMap.{Labels, label-at-peak}
 use Rattle.flow.proofs.Orders.{order-ranked, no-feeds}
 use Rattle.labelling.specs.Evidence.{TrueLabel}

@@ -15,8 +15,8 @@ use Rattle.storage.proofs.Clears.{drop-same, cleared-size, cleared-low, cleared
 use Rattle.storage.proofs.Entries.{member-at}
 use Rattle.storage.proofs.InLists.{put-length, put-size, put-list, put-beside, put-other-size, put-other}
 use Rattle.storage.proofs.Stores.{stored-beside}
-use Rattle.theory.specs.Net.{Net, Gate}
-use Rattle.theory.specs.Sound.{Bounded, Ranked}
+use Rattle.theory.specs.paper.Net.{Net, Gate}
+use Rattle.theory.specs.paper.Sound.{Bounded, Ranked}
 use Rattle.theory.proofs.Walks.{gate-no-input}
 use Rattle.theory.proofs.Cuts.{cut-of-fanins}
 use Rattle.area.specs.Area.{labelIn}

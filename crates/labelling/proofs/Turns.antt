@@ -14,7 +14,7 @@ use Rattle.storage.proofs.Clears.{cleared-used, beyond-same, beyond-then}
 use Rattle.storage.proofs.Drawings.{fed-in}
 use Rattle.storage.proofs.Rests.{restOf, withRest, rest-length, rest-kept, rest-stored}
 use Rattle.storage.proofs.Stores.{sets-headed}
-use Rattle.theory.specs.Evidence.{peak}
+use Rattle.theory.specs.paper.Evidence.{peak}
 use Rattle.area.specs.Area.{labelIn, PeakIn}
 use Rattle.flow.specs.declared.Flow.{Flow}
 use Rattle.flow.specs.declared.Flow.the-variants.{Paths, Cut}

@@ -5,9 +5,9 @@ use mathlib.Core.List.{List}
 use lib.ListN.{length}
 use Rattle.storage.specs.Drawings.{netIn, Arranged}
 use Rattle.storage.specs.Entries.{cleared}
-use Rattle.theory.specs.Net.{Net, Gate}
-use Rattle.theory.specs.Cover.{Label}
-use Rattle.theory.specs.Evidence.{Evidence, Owes}
+use Rattle.theory.specs.paper.Net.{Net, Gate}
+use Rattle.theory.specs.paper.Cover.{Label}
+use Rattle.theory.specs.paper.Evidence.{Evidence, Owes}
 use Rattle.area.specs.Area.{labelIn}
 use Rattle.flow.specs.Paths.{pathsIn, LinksIn}
 use Rattle.flow.specs.Answer.{FlowLeft}

@@ -3,8 +3,8 @@ use Prim.Native.Nat.{ℕ, suc, _≤_, _<_}
 use mathlib.Core.Path.{_≡_}
 use mathlib.Core.List.{List}
 use lib.ListN.{getD}
-use Rattle.theory.specs.Net.{Net, Input}
-use Rattle.theory.specs.Evidence.{peak, Evidence, LeastCut, DistinctFanins, MappersCut}
+use Rattle.theory.specs.paper.Net.{Net, Input}
+use Rattle.theory.specs.paper.Evidence.{peak, Evidence, LeastCut, DistinctFanins, MappersCut}
 use Rattle.labelling.specs.Evidence.{TrueLabel}
 
 -- What is found at gate t, where `lab` has the labels behind t: "If p is 0 it is 1. Otherwise .. the label is p exactly when a cut of t exists

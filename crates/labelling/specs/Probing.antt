@@ -7,8 +7,9 @@ use lib.Seq.{sets}
 use Rattle.storage.specs.Drawings.{netIn, Arranged}
 use Rattle.storage.specs.declared.CutSize.{CutSize}
 use Rattle.storage.specs.Entries.{Beyond}
-use Rattle.theory.specs.Net.{Gate}
-use Rattle.theory.specs.Evidence.{peak, Evidence, LeastCut, NeverFalls}
+use Rattle.theory.specs.paper.Net.{Gate}
+use Rattle.theory.specs.paper.Evidence.{peak, Evidence, LeastCut}
+use Rattle.theory.specs.Lines.{NeverFalls}
 use Rattle.area.specs.Area.{labelIn}
 use Rattle.flow.specs.declared.Flow.{Flow}
 use Rattle.flow.specs.declared.Flow.the-variants.{Paths, Cut}

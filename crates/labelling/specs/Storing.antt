@@ -1,15 +1,15 @@
 -- Labels and cuts in arrays: a label a node, and a list of leaves a node.
 use Prim.Native.Nat.{ℕ, suc, _+_, _*_, _≤_, _<_}
 use mathlib.Core.Path.{_≡_}
-use mathlib.Core.Logic.{_⊎_}
-use mathlib.Core.List.{List, _∷_, List·Memᴰ}
+use mathlib.Core.List.{List, [], _∷_, _++_, List·Memᴰ}
 use lib.ListN.{length, getD, set}
 use lib.Seq.{sets}
+use Rattle.storage.specs.declared.Node.{Node}
 use Rattle.storage.specs.Drawings.{netIn}
 use Rattle.storage.specs.Entries.{cleared, Beyond}
 use Rattle.storage.specs.Lists.{sizeAt, entryAt, listAt}
-use Rattle.theory.specs.Net.{Net, Gate, Input}
-use Rattle.theory.specs.Evidence.{DistinctFanins, MappersCut}
+use Rattle.theory.specs.paper.Net.{Net, Gate, Input}
+use Rattle.theory.specs.paper.Evidence.{DistinctFanins, MappersCut}
 use Rattle.area.specs.Area.{labelIn}
 use Rattle.labelling.specs.Evidence.{TrueLabel}
 use Rattle.labelling.specs.declared.distinct.Least.{Least}
@@ -52,14 +52,12 @@ pub record LabellingMade (net : Net) (k : ℕ) (labels₀ cuts₀ labels cuts : 
 
 -- the least number of a list that is `from` or more
 pub data LeastFrom (l : List ℕ) (from : ℕ) : Least → Type 0 where
-  at : {v : ℕ} → List·Memᴰ v l → from ≤ v → ((u : ℕ) → List·Memᴰ u l → from ≤ u → v ≤ u) → LeastFrom l from (At (record { id = v }))
+  at : {v : Node} → List·Memᴰ (v .id) l → from ≤ v .id → ((u : ℕ) → List·Memᴰ u l → from ≤ u → v .id ≤ u) → LeastFrom l from (At v)
   nothing : ((u : ℕ) → List·Memᴰ u l → from ≤ u → ⊥) → LeastFrom l from Nothing
 
--- `best` or v, whichever is less, where v counts only from `from` on
-pub record Lowered (best from v r : ℕ) : Type 0 where
-  pub most : r ≤ best
-  pub taken : from ≤ v → r ≤ v
-  pub one : (r ≡ best) ⊎ ((r ≡ v) × (from ≤ v))
+-- Where `best` is the least of a list, r is the least of that list and v.
+abbrev pub Lowered : (best : Least) (from v : ℕ) (r : Least) → Type 0
+Lowered best from v r = (l : List ℕ) → LeastFrom l from best → LeastFrom (l ++ (v ∷ [])) from r
 
 -- A gate's fanins lie within the array.
 pub record FaninsRoom (fanins : List ℕ) (gate : ℕ) : Type 0 where

@@ -4,8 +4,9 @@ use mathlib.Core.List.{List}
 use lib.ListN.{length, take}
 use Rattle.storage.specs.Drawings.{netIn, Arranged}
 use Rattle.storage.specs.Entries.{Beyond}
-use Rattle.theory.specs.Net.{Net, Gate}
-use Rattle.theory.specs.Evidence.{peak, NeverFalls}
+use Rattle.theory.specs.paper.Net.{Net, Gate}
+use Rattle.theory.specs.paper.Evidence.{peak}
+use Rattle.theory.specs.Lines.{NeverFalls}
 use Rattle.area.specs.Area.{labelIn}
 use Rattle.labelling.specs.Labelling.{Told}
 use Rattle.labelling.specs.Storing.{Stored, Room, Labelling}
@@ -20,7 +21,7 @@ pub record TurnAsked (inputs nodes k : ℕ) (fanins order : List ℕ) (t : ℕ) 
   pub roles-long : nodes ≤ length roles
   pub links-long : 5 * nodes ≤ length links
 
--- The gate's label and cut are told, and stored.
+-- What is found at the gate (`Told`) stands in the arrays.
 pub record Settled (net : Net) (k t : ℕ) (labels cuts labels′ cuts′ : List ℕ) : Type 0 where
   pub label : ℕ
   pub cut : List ℕ
@@ -42,7 +43,7 @@ pub record AlongAsked (inputs nodes k : ℕ) (fanins order labels cuts roles lin
   pub roles-long : nodes ≤ length roles
   pub links-long : 5 * nodes ≤ length links
 
--- After the first i gates' turns.
+-- After the first i gates' turns, whatever the arrays held when labelling began.
 pub record Along (inputs nodes k : ℕ) (fanins order : List ℕ) (i : ℕ)
     (labels cuts roles links labels′ cuts′ roles′ links′ : List ℕ) : Type 0 where
   pub labelling : (labels₀ cuts₀ : List ℕ) →

@@ -5,6 +5,7 @@ use flow::Flow;
 use storage::Node;
 use storage::Numbers;
 use storage::lists::PLACES;
+use storage::lists::node_at;
 use storage::lists::put_size;
 use storage::marks::put_label;
 ghost use Prim.Native.Nat.{_-_};
@@ -73,7 +74,7 @@ pub fn settle_all(
     let gates = numbers.nodes - numbers.inputs;
     let mut i = 0;
     while i < gates {
-        let gate = Node { id: order[i] };
+        let gate = node_at(order, i);
         settle(numbers, fanins, order, gate, labels, cuts, roles, links);
         i += 1;
     }

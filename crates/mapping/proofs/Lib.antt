@@ -2,6 +2,5 @@ pub mod PathsWritten
 pub mod LutsWritten
 pub mod LinesWritten
 pub mod SheetsWritten
-pub mod SheetsMade
 pub mod DrawingsMapped
 pub mod Mapped

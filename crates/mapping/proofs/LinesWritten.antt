@@ -12,11 +12,11 @@ use Rattle.storage.specs.Drawings.{netIn, Fed}
 use Rattle.storage.specs.Lists.{sizeAt, listAt}
 use Rattle.storage.specs.Marks.{Tells}
 use Rattle.storage.proofs.Drawings.{gate-below, drawn-span, fed-in}
-use Rattle.theory.specs.Net.{Net, Input}
-use Rattle.theory.specs.Walk.{Cut}
-use Rattle.theory.specs.Sound.{Ranked}
-use Rattle.theory.specs.Cover.{Label}
-use Rattle.theory.specs.Evidence.{peak, Evidence, Owes}
+use Rattle.theory.specs.paper.Net.{Net, Input}
+use Rattle.theory.specs.paper.Walk.{Cut}
+use Rattle.theory.specs.paper.Sound.{Ranked}
+use Rattle.theory.specs.paper.Cover.{Label}
+use Rattle.theory.specs.paper.Evidence.{peak, Evidence, Owes}
 use Rattle.theory.proofs.Walks.{no-loop}
 use Rattle.theory.proofs.FlowMap.{labels-at-inputs}
 use Rattle.theory.proofs.MappersCuts.{mappers-cut-is-cut}
@@ -25,8 +25,8 @@ use Rattle.area.specs.Area.{labelIn}
 use Rattle.flow.specs.Paths.{pathsIn}
 use Rattle.labelling.specs.Evidence.{EvidenceAsked, EvidenceFound}
 use Rattle.sheet.specs.declared.Form.{Form}
-use Rattle.sheet.specs.Sheet.{lineOf, noLine}
-use Rattle.sheet.specs.Encoding.{lineField}
+use Rattle.sheet.specs.paper.Sheet.{lineOf, noLine}
+use Rattle.sheet.specs.paper.Encoding.{lineField}
 use Rattle.sheet.specs.Writing.{Written, part}
 use Rattle.sheet.specs.Longest.{Backed, Drawing, lineMost}
 use Rattle.sheet.proofs.Numbers.{flat-more}

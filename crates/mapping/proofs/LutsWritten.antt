@@ -11,12 +11,13 @@ use borrow.Author.Tests.{eq-eqb, ne-eqb}
 use Rattle.flow.specs.Numbers.{those}
 use Rattle.storage.specs.Lists.{sizeAt}
 use Rattle.sheet.specs.declared.Form.{Form}
-use Rattle.sheet.specs.Sheet.{lutOf}
-use Rattle.sheet.specs.Encoding.{lutField}
+use Rattle.sheet.specs.paper.Sheet.{lutOf}
+use Rattle.sheet.specs.paper.Encoding.{lutField}
 use Rattle.sheet.specs.Writing.{Room, Written, part}
 use Rattle.sheet.proofs.Numbers.{flat-append}
 use Rattle.sheet.proofs.Writes.{then, written-as, same-size}
-use Rattle.mapping.specs.Luts.{isMarked, lutIn, lutsBelow, lutsAt, LutAsked, LutsAsked}
+use Rattle.settling.specs.Arrays.{isMarked, lutIn, lutsBelow}
+use Rattle.mapping.specs.Luts.{lutsAt, LutAsked, LutsAsked}
 
 module _ (form : Form) (cuts luts tables : List ℕ) where
   fields : ℕ → List ℕ

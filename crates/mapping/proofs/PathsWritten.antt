@@ -14,8 +14,8 @@ use Rattle.flow.specs.Paths.{onward, follow, pathsIn, startsIn}
 use Rattle.flow.specs.Reads.{PathRead}
 use Rattle.flow.proofs.Listing.{read-keeps-paths}
 use Rattle.sheet.specs.declared.Form.{Form}
-use Rattle.sheet.specs.Sheet.{lineOf}
-use Rattle.sheet.specs.Encoding.{pathBytes, lineField}
+use Rattle.sheet.specs.paper.Sheet.{lineOf}
+use Rattle.sheet.specs.paper.Encoding.{pathBytes, lineField}
 use Rattle.sheet.specs.Writing.{Room, Written, Closed, part, lineBegun}
 use Rattle.sheet.proofs.Writes.{then, written-as, written-more, room-first, room-then}
 use Rattle.sheet.proofs.Joins.{next-room, line-room, line-written, line-ends}

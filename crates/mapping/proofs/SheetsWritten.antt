@@ -13,17 +13,18 @@ use Rattle.storage.proofs.InLists.{list-size}
 use Rattle.flow.specs.Numbers.{those}
 use Rattle.flow.proofs.Sums.{those-hold}
 use Rattle.sheet.specs.declared.Form.{Form}
-use Rattle.sheet.specs.Sheet.{Lut, noLut}
-use Rattle.sheet.specs.Encoding.{headField, lineField, lutField, encode}
+use Rattle.sheet.specs.paper.Sheet.{Lut}
+use Rattle.sheet.specs.paper.Encoding.{headField, lineField, lutField, encode}
 use Rattle.sheet.specs.Writing.{Room, Written}
-use Rattle.sheet.specs.Longest.{lineMost, lutMost}
+use Rattle.sheet.specs.Longest.{lineMost, lutMost, noLut}
 use Rattle.sheet.proofs.Lengths.{length-head, length-lut, flat-most}
 use Rattle.sheet.proofs.Writes.{then, written-as, same-size}
 use Rattle.sheet.proofs.Joins.{sheet-written}
 use Rattle.packing.specs.declared.Mapping.{Mapping}
-use Rattle.mapping.specs.Luts.{isMarked, lutIn, lutsBelow, LutsAsked}
+use Rattle.settling.specs.Arrays.{isMarked, lutIn, lutsBelow, sheetIn}
+use Rattle.mapping.specs.Luts.{LutsAsked}
 use Rattle.mapping.specs.Lines.{LinesAsked, LinesWritten}
-use Rattle.mapping.specs.WholeSheets.{SheetAsked, sheetIn, SheetWritten}
+use Rattle.mapping.specs.WholeSheets.{SheetAsked, SheetWritten}
 
 lut-at : (f : ℕ → Lut) (ids : List ℕ) (i : ℕ) → i < length ids → getD (map f ids) i noLut ≡ f (getD ids i 0)
 lut-at f [] i low = absurd (not-suc-le-zero low)

@@ -1,5 +1,5 @@
+pub mod paper
 pub mod Luts
 pub mod Lines
 pub mod WholeSheets
-pub mod Maps
 pub mod Sheets

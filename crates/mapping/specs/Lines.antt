@@ -5,17 +5,17 @@ use mathlib.Core.List.{List, [], flatMap}
 use lib.ListN.{length, getD}
 use Rattle.storage.specs.Drawings.{netIn, Arranged}
 use Rattle.storage.specs.Lists.{listAt}
-use Rattle.drawing.specs.Limits.{mostK}
-use Rattle.theory.specs.Net.{Net, Gate}
+use Rattle.drawing.specs.paper.Limits.{mostK}
+use Rattle.theory.specs.paper.Net.{Net, Gate}
 use Rattle.area.specs.Area.{labelIn}
 use Rattle.flow.specs.Paths.{pathsIn}
 use Rattle.flow.specs.Reads.{ReadAsked}
 use Rattle.sheet.specs.declared.Form.{Form}
-use Rattle.sheet.specs.Sheet.{Line, lineOf, noLine}
-use Rattle.sheet.specs.Encoding.{pathBytes, lineField}
+use Rattle.sheet.specs.paper.Sheet.{Line, lineOf, noLine}
+use Rattle.sheet.specs.paper.Encoding.{pathBytes, lineField}
 use Rattle.sheet.specs.Writing.{Room, Written, part}
 use Rattle.sheet.specs.Longest.{lineMost}
-use Rattle.sheet.specs.Rules.{PathsKept}
+use Rattle.sheet.specs.paper.Rules.{PathsKept}
 use Rattle.packing.specs.Tables.{Labelled}
 
 -- The i-th of the paths that stand in the links can be read, and has room.

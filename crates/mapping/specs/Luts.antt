@@ -1,27 +1,15 @@
--- LUTs in arrays: a list of leaves, a mark and a table a node.
+-- LUTs of the sheet from arrays: what the functions that write them ask.
 use Prim.Native.Nat.{ℕ, _+_, _*_, _≤_, _<_}
-use mathlib.Core.Bool.{Bool, cond}
-use mathlib.Core.List.{List, [], _∷_, map, flatMap}
-use lib.ListN.{length, getD}
-use lib.Dec.{eqb}
-use Rattle.storage.specs.Lists.{sizeAt, listAt, ListsIn}
-use Rattle.drawing.specs.Limits.{mostK}
-use Rattle.flow.specs.Numbers.{those}
+use mathlib.Core.Bool.{cond}
+use mathlib.Core.List.{List, [], _∷_, flatMap}
+use lib.ListN.{length}
+use Rattle.storage.specs.Lists.{sizeAt, ListsIn}
+use Rattle.drawing.specs.paper.Limits.{mostK}
 use Rattle.sheet.specs.declared.Form.{Form}
-use Rattle.sheet.specs.Sheet.{Lut, lutOf}
-use Rattle.sheet.specs.Encoding.{lutField}
+use Rattle.sheet.specs.paper.Sheet.{Lut}
+use Rattle.sheet.specs.paper.Encoding.{lutField}
 use Rattle.sheet.specs.Writing.{Room}
-
-abbrev pub isMarked : List ℕ → ℕ → Bool
-isMarked luts v = eqb (getD luts v 0) 1
-
--- the LUT with root v
-abbrev pub lutIn : (cuts tables : List ℕ) → ℕ → Lut
-lutIn cuts tables v = lutOf v (listAt cuts v) (getD tables v 0)
-
--- "for each LUT, roots rising": the LUTs of the marked nodes below n
-unfoldable pub lutsBelow : (cuts luts tables : List ℕ) → ℕ → List Lut
-lutsBelow cuts luts tables n = map (lutIn cuts tables) (those (isMarked luts) n)
+use Rattle.settling.specs.Arrays.{isMarked, lutIn, lutsBelow}
 
 -- node v's LUT, if it is a root
 abbrev pub lutsAt : (cuts luts tables : List ℕ) → ℕ → List Lut

@@ -1,17 +1,16 @@
 -- A drawing mapped into the sheet.
 use Prim.Native.Nat.{ℕ, _-_, _≤_, _<_}
 use mathlib.Core.Path.{_≡_}
-use mathlib.Core.List.{List, List·Memᴰ}
+use mathlib.Core.List.{List}
 use lib.ListN.{length, take}
 use Rattle.storage.specs.declared.Numbers.{Numbers}
-use Rattle.storage.specs.Drawings.{netIn, tablesIn, Arranged}
-use Rattle.drawing.specs.Limits.{mostNodes}
-use Rattle.sheet.specs.Limits.{sheetRoom}
-use Rattle.sheet.specs.Sheet.{Sheet}
-use Rattle.sheet.specs.Encoding.{narrow, encode}
+use Rattle.storage.specs.Drawings.{netIn, tablesIn}
+use Rattle.sheet.specs.paper.Limits.{sheetRoom}
+use Rattle.sheet.specs.paper.Sheet.{Sheet}
+use Rattle.sheet.specs.paper.Encoding.{narrow, encode}
 use Rattle.sheet.specs.Writing.{Written}
 use Rattle.sheet.specs.Longest.{sheetMost}
-use Rattle.keeping.specs.Mappers.{MappersSheet}
+use Rattle.keeping.specs.paper.Mappers.{MappersSheet}
 use Rattle.packing.specs.Tables.{Made, MapAsked}
 use Rattle.mapping.specs.declared.Reply.{Reply}
 use Rattle.mapping.specs.declared.Reply.the-variants.{Mapped, Room}
@@ -30,15 +29,6 @@ pub record DrawingMapped (inputs nodes k : ℕ) (fanins rows outputs : List ℕ)
   pub mappers : MappersSheet (netIn inputs nodes fanins) (tablesIn rows) k (take number outputs) sheet
   pub fits : length (encode narrow sheet) ≤ length before
   pub written : Written before 0 (encode narrow sheet) after r
-
--- A table that was taken: arrays in the paper's numbers.
-pub record TakenAsked (n : Numbers) (fanins rows order outputs : List ℕ) : Type 0 where
-  pub drawing : Arranged (n .inputs) (n .nodes) (n .k .leaves) fanins order
-  pub some : 1 ≤ n .inputs
-  pub nodes-most : n .nodes ≤ mostNodes
-  pub rows-long : n .nodes ≤ length rows
-  pub outputs-long : n .roots ≤ length outputs
-  pub output-nodes : (v : ℕ) → List·Memᴰ v (take (n .roots) outputs) → v < n .nodes
 
 -- "8 Room: sheet buffer shorter than 49,152", or the mapper's sheet
 pub data TakenMapped (n : Numbers) (fanins rows outputs before : List ℕ) (r : Reply) (after : List ℕ) : Type 0 where

@@ -1,4 +1,4 @@
--- The whole sheet from arrays.
+-- The whole sheet written from arrays: head, lines, LUTs.
 use Prim.Native.Nat.{ℕ, _+_, _-_, _≤_, _<_}
 use mathlib.Core.Path.{_≡_}
 use mathlib.Core.List.{List}
@@ -6,12 +6,12 @@ use lib.ListN.{length, getD}
 use Rattle.storage.specs.Drawings.{netIn}
 use Rattle.storage.specs.Lists.{sizeAt}
 use Rattle.sheet.specs.declared.Form.{Form}
-use Rattle.sheet.specs.Sheet.{Line, Sheet, noLine}
-use Rattle.sheet.specs.Encoding.{encode}
+use Rattle.sheet.specs.paper.Sheet.{Line, noLine}
+use Rattle.sheet.specs.paper.Encoding.{encode}
 use Rattle.sheet.specs.Writing.{Written}
 use Rattle.sheet.specs.Longest.{sheetMost}
 use Rattle.packing.specs.declared.Mapping.{Mapping}
-use Rattle.mapping.specs.Luts.{lutsBelow}
+use Rattle.settling.specs.Arrays.{lutsBelow, sheetIn}
 use Rattle.mapping.specs.Lines.{LinesFrom, LineOf}
 
 -- Labels, cuts, roots and tables stand in the arrays, and the buffer has room for the longest sheet.
@@ -24,10 +24,6 @@ pub record SheetAsked (form : Form) (inputs nodes k : ℕ) (fanins order labels 
   pub few : length (lutsBelow cuts luts tables nodes) ≤ nodes - inputs
   pub few-leaves : (v : ℕ) → v < nodes → getD luts v 0 ≡ 1 → sizeAt cuts v ≤ k
   pub room : sheetMost (form .width) k nodes (nodes - inputs) ≤ length sheet
-
--- the sheet of a depth, lines and the LUTs in the arrays
-abbrev pub sheetIn : (depth : ℕ) (lines : List Line) (cuts luts tables : List ℕ) (nodes : ℕ) → Sheet
-sheetIn depth lines cuts luts tables nodes = record { depth = depth; lines = lines; luts = lutsBelow cuts luts tables nodes }
 
 pub record SheetWritten (form : Form) (inputs nodes k : ℕ) (fanins labels cuts luts tables : List ℕ) (made : Mapping) (before : List ℕ)
     (r : ℕ) (after : List ℕ) : Type 0 where

@@ -1,4 +1,5 @@
 // The mapper: a gate table's bytes in, the mapping sheet's bytes out.
+pub mod answers;
 mod lines;
 mod luts;
 mod paths;
@@ -10,18 +11,16 @@ use drawing::Refusal;
 use drawing::limits::MOST_NODES;
 use drawing::limits::MOST_OUTPUTS;
 use drawing::limits::MOST_PLACES;
+use settling::MOST_LINKS;
+use settling::MOST_WORDS;
 use sheet::limits::SHEET_ROOM;
 use storage::Node;
 use storage::Numbers;
 use taking::Taking;
 use taking::take_table;
-ghost use Rattle.mapping.specs.Sheets.{TakenAsked, TakenMapped};
-ghost use Rattle.mapping.specs.Maps.{Maps};
-
-// The links of the largest drawing in five columns, and its words in two.
-const MOST_LINKS: usize = 5 * MOST_NODES;
-
-const MOST_WORDS: usize = 2 * MOST_NODES;
+ghost use Rattle.settling.specs.Arrays.{TakenAsked};
+ghost use Rattle.mapping.specs.Sheets.{TakenMapped};
+ghost use Rattle.mapping.specs.paper.Maps.{Maps};
 
 // A table mapped, with the sheet's length; or refused; or the lowest gate on a loop; or a sheet buffer that is too short.
 pub enum Reply {

@@ -13,7 +13,7 @@ use storage::marks::label_of;
 ghost use Rattle.storage.specs.Drawings.{netIn};
 ghost use Rattle.mapping.specs.Lines.{LineAsked, LinesAsked, LineWritten, LinesWritten};
 
-// One gate's line.
+// One gate's line; the evidence is looked for only where it is due.
 fn write_line(
     form: Form,
     numbers: Numbers,

@@ -6,9 +6,10 @@ use storage::lists::PLACES;
 use storage::lists::cut_size;
 use storage::marks::is_marked;
 ghost use mathlib.Core.List.{flatMap};
-ghost use Rattle.sheet.specs.Encoding.{lutField};
+ghost use Rattle.sheet.specs.paper.Encoding.{lutField};
 ghost use Rattle.sheet.specs.Writing.{Written};
-ghost use Rattle.mapping.specs.Luts.{lutsAt, lutsBelow, LutAsked, LutsAsked};
+ghost use Rattle.settling.specs.Arrays.{lutsBelow};
+ghost use Rattle.mapping.specs.Luts.{lutsAt, LutAsked, LutsAsked};
 
 // Writes the LUT of a root; of any other node nothing.
 fn write_lut(

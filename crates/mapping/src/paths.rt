@@ -11,8 +11,8 @@ ghost use mathlib.Core.Path.{_≡_};
 ghost use mathlib.Core.List.{[], flatMap};
 ghost use lib.ListN.{getD};
 ghost use Rattle.flow.specs.Paths.{pathsIn};
-ghost use Rattle.sheet.specs.Sheet.{lineOf};
-ghost use Rattle.sheet.specs.Encoding.{pathBytes, lineField};
+ghost use Rattle.sheet.specs.paper.Sheet.{lineOf};
+ghost use Rattle.sheet.specs.paper.Encoding.{pathBytes, lineField};
 ghost use Rattle.sheet.specs.Writing.{Written, part};
 ghost use Rattle.mapping.specs.Lines.{PathAsked, PathsAsked, CutAsked, ProvenAsked};
 

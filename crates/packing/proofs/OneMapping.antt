@@ -10,7 +10,7 @@ use Rattle.storage.specs.Columns.{column}
 use Rattle.storage.specs.Drawings.{netIn, tablesIn}
 use Rattle.storage.proofs.InColumns.{column-at}
 use Rattle.storage.proofs.Clears.{agree}
-use Rattle.theory.specs.Lists.{greatest}
+use Rattle.theory.specs.paper.Lists.{greatest}
 use Rattle.theory.proofs.Cones.{cone-table-only}
 use Rattle.walking.proofs.Orders.{drawn-ranked}
 use Rattle.area.specs.Area.{labelIn}

@@ -6,9 +6,9 @@ use mathlib.Core.List.{List}
 use lib.ListN.{length, getD, take}
 use Rattle.storage.specs.Lists.{listAt}
 use Rattle.storage.specs.Drawings.{netIn}
-use Rattle.theory.specs.Net.{Gate}
-use Rattle.theory.specs.Sound.{Ranked}
-use Rattle.theory.specs.Walk.{Cut}
+use Rattle.theory.specs.paper.Net.{Gate}
+use Rattle.theory.specs.paper.Sound.{Ranked}
+use Rattle.theory.specs.paper.Walk.{Cut}
 use Rattle.theory.proofs.MappersCuts.{mappers-cut-is-cut}
 use Rattle.walking.proofs.Orders.{drawn-ranked}
 use Rattle.labelling.specs.Storing.{LabellingMade}

@@ -13,8 +13,8 @@ use Rattle.storage.specs.Columns.{column}
 use Rattle.storage.specs.Drawings.{netIn, tablesIn}
 use Rattle.storage.proofs.Clears.{cleared-size, filled-beyond, beyond-same, beyond-then}
 use Rattle.storage.proofs.InColumns.{column-size, column-set, column-before}
-use Rattle.theory.specs.Walk.{Cut}
-use Rattle.theory.specs.Lookup.{ConeTable}
+use Rattle.theory.specs.paper.Walk.{Cut}
+use Rattle.theory.specs.paper.Lookup.{ConeTable}
 use Rattle.covering.specs.Cones.{ConeAsked, ConeAnswered}
 use Rattle.covering.proofs.Leaves.{leavesFrom, leaves-cut, leaves-room}
 use Rattle.packing.specs.Tables.{valuesOf, tablesOf, TableAsked, TableIs, TableAnswered, TablesAsked, TablesMade}

@@ -7,11 +7,11 @@ use Rattle.storage.specs.Entries.{Beyond}
 use Rattle.storage.specs.Lists.{sizeAt, listAt}
 use Rattle.storage.specs.Columns.{column}
 use Rattle.storage.specs.Drawings.{netIn, tablesIn, Arranged}
-use Rattle.theory.specs.Net.{Net, Gate}
-use Rattle.theory.specs.Lists.{greatest}
-use Rattle.theory.specs.Walk.{Cut}
-use Rattle.theory.specs.Evidence.{MappersCut}
-use Rattle.theory.specs.Lookup.{ConeTable}
+use Rattle.theory.specs.paper.Net.{Net, Gate}
+use Rattle.theory.specs.paper.Lists.{greatest}
+use Rattle.theory.specs.paper.Walk.{Cut}
+use Rattle.theory.specs.paper.Evidence.{MappersCut}
+use Rattle.theory.specs.paper.Lookup.{ConeTable}
 use Rattle.area.specs.Area.{labelIn}
 use Rattle.labelling.specs.Evidence.{TrueLabel}
 use Rattle.labelling.specs.Storing.{Room}

@@ -4,16 +4,16 @@ use native.Mathlib.Omega.{arith}
 use mathlib.Core.Path.{_≡_, ap, sym, _∙_}
 use mathlib.Core.List.{List}
 use lib.ListN.{length}
-use Rattle.sheet.specs.Sheet.{Sheet}
-use Rattle.sheet.specs.Encoding.{narrow, encode}
+use Rattle.sheet.specs.paper.Sheet.{Sheet}
+use Rattle.sheet.specs.paper.Encoding.{narrow, encode}
 use Rattle.mapping.specs.declared.Reply.{Reply}
-use Rattle.mapping.specs.Maps as mapper
-use Rattle.mapping.specs.Maps.{MapsTo}
+use Rattle.mapping.specs.paper.Maps as mapper
+use Rattle.mapping.specs.paper.Maps.{MapsTo}
 use Rattle.mapping.proofs.Mapped.{withSheet, OneReply, maps-one}
 use Rattle.inspecting.specs.declared.Inspection.{Inspection}
-use Rattle.inspecting.specs.Inspecting as inspector
+use Rattle.inspecting.specs.paper.Inspecting as inspector
 use Rattle.inspecting.proofs.Replies.{one-reply}
-use Rattle.plover.specs.Words.{half, wordOf, MapsAs, InspectsAs}
+use Rattle.plover.specs.paper.Words.{half, wordOf, MapsAs, InspectsAs}
 
 -- the halves of a word
 parts : (number place w : ℕ) → place < half → w ≡ wordOf number place → (w / half ≡ number) × (w % half ≡ place)

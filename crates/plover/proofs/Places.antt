@@ -6,26 +6,19 @@ use mathlib.Core.Path.{_≡_, refl, ap, sym, subst}
 use mathlib.Core.Logic.{⊎-elim}
 use mathlib.Core.List.{List, [], _∷_, _++_, map, flatMap, List·Memᴰ, List·Memᴰ·head, List·Memᴰ·tail, List·Memᴰ·cases-cons, List·Memᴰ·append-cases, List·Memᴰ·eq-of-singleton}
 use lib.ListN.{length, getD}
-use Rattle.storage.specs.declared.Node.{Node}
-use Rattle.theory.specs.Net.{Net}
+use Rattle.theory.specs.paper.Net.{Net}
 use Rattle.drawing.specs.declared.Verdict.the-variants.{Sound}
-use Rattle.drawing.specs.Refusals as table
-use Rattle.drawing.specs.Fields.{headK}
-use Rattle.drawing.specs.Table.{netOf, tablesOf}
-use Rattle.drawing.specs.Reading.{found, tableOf, nodesOf}
+use Rattle.drawing.specs.paper.Fields.{headK}
+use Rattle.drawing.specs.paper.Table.{netOf, tablesOf}
+use Rattle.drawing.specs.paper.Reading.{found, tableOf, nodesOf}
 use Rattle.drawing.proofs.SoundTables.{table-sound}
 use Rattle.drawing.proofs.Places.{refused-place}
-use Rattle.walking.specs.declared.Ordering.the-variants as made
-use Rattle.walking.specs.Promises.{LoopRuling}
-use Rattle.taking.specs.declared.Taking.{Taking}
-use Rattle.taking.specs.declared.Taking.the-variants as taking
-use Rattle.taking.specs.Judged.{Says}
-use Rattle.taking.proofs.Judged.{free-of}
+use Rattle.taking.specs.paper.Taken.{IsTaken}
 use Rattle.sheet.specs.declared.Ruling.the-variants as ruling
-use Rattle.sheet.specs.Sheet.{Lut, Sheet}
-use Rattle.sheet.specs.Encoding.{narrow, encode}
-use Rattle.sheet.specs.Shape.{reading}
-use Rattle.sheet.specs.Rules.{Rule, Found, FirstBroken, rulePlace, gateRules, lutRules, gates, rulesOf}
+use Rattle.sheet.specs.paper.Sheet.{Lut, Sheet}
+use Rattle.sheet.specs.paper.Encoding.{narrow, encode}
+use Rattle.sheet.specs.paper.Shape.{reading}
+use Rattle.sheet.specs.paper.Rules.{Rule, Found, FirstBroken, gateRules, lutRules, gates, rulesOf}
 use Rattle.sheet.proofs.Longest.{no-longer-than}
 use Rattle.sheet.proofs.Firsts.{from-member}
 use Rattle.sheet.proofs.Listed.{root-gate}
@@ -33,49 +26,38 @@ use Rattle.keeping.proofs.Listed.{flat-member, map-member}
 use Rattle.keeping.proofs.Shaped.{mappers-kept}
 use Rattle.keeping.proofs.Tables.{bounded, outputs-are-nodes, nodes-few, nodes-are, k-few, drawing, table-ranked}
 use Rattle.mapping.specs.declared.Reply.{Reply}
-use Rattle.mapping.specs.Maps as mapper
-use Rattle.mapping.specs.Maps.{Maps, MapsTo}
+use Rattle.mapping.specs.paper.Maps as mapper
+use Rattle.mapping.specs.paper.Maps.{Maps, MapsTo}
 use Rattle.inspecting.specs.declared.Inspection.{Inspection}
-use Rattle.inspecting.specs.Inspecting as inspector
-use Rattle.inspecting.specs.Inspecting.{Inspects, Drawable, dueIn, sheetIn, replyOf}
+use Rattle.inspecting.specs.paper.Inspecting as inspector
+use Rattle.inspecting.specs.paper.Inspecting.{Inspects, dueIn, sheetIn, replyOf}
 use Rattle.inspecting.proofs.Places.{fault-place, depth-most}
 use Rattle.inspecting.proofs.Sound.{roots-rise}
-use Rattle.plover.specs.Words.{half}
+use Rattle.plover.specs.paper.Words.{half}
 
--- a gate on a loop is a node
-loop-node : {net : Net} {g : Node} → LoopRuling net (made.LoopAt g) → g .id < net .nodes
-loop-node (LoopRuling.lowest gate around lowest) = gate .below
-
--- the place that is said of a table, if any
-abbrev placeSaid : Taking → ℕ
-placeSaid (taking.Taken n) = 0
-placeSaid (taking.Refused x) = table.place x
-placeSaid (taking.LoopAt g) = g .id
-placeSaid taking.TooShort = 0
-
-said-place : (s : List ℕ) (t : Taking) → Says s t → placeSaid t ≤ 3719
-said-place s t (Says.refused e) = refused-place s e
-said-place s t (Says.ordered {o = made.Whole} e ruling) = omega arith
-said-place s t (Says.ordered {o = made.LoopAt g} e ruling) = omega (arith, loop-node ruling, nodes-few s e)
-
-sheet-length : (s : List ℕ) (sheet : Sheet) → mapper.Taken s → MapsTo s sheet → length (encode narrow sheet) ≤ 43554
+sheet-length : (s : List ℕ) (sheet : Sheet) → IsTaken s → MapsTo s sheet → length (encode narrow sheet) ≤ 43554
 sheet-length s sheet taken to =
-    let (whole, free) = free-of taken refl in
+    let whole = taken .whole in
+    let free = taken .no-loop in
     no-longer-than (drawing s whole free)
     (mappers-kept (netOf (tableOf s)) (tablesOf (tableOf s)) (headK s) (found s .outputs) sheet (drawing s whole free) (table-ranked s whole free)
     (outputs-are-nodes s whole) to)
     (k-few s whole) (nodes-few s whole)
 
 pub map-place : (s before : List ℕ) (r : Reply) (after : List ℕ) → Maps s before r after → mapper.place r < half
-map-place s before r after (Maps.refused says is same) = omega (arith, said-place s _ says, ap mapper.place is)
-map-place s before r after (Maps.loop says is same) = omega (arith, said-place s _ says, ap mapper.place is)
-map-place s before r after (Maps.room says short is same) = omega (arith, ap mapper.place is)
-map-place s before r after (Maps.mapped sheet says long to is same) = omega (arith, sheet-length s sheet says to, ap mapper.place is)
+map-place s before r after (Maps.refused e is same) = omega (arith, refused-place s e, ap mapper.place is)
+map-place s before r after (Maps.loop e l is same) = omega (arith, l .gate .below, nodes-few s e, ap mapper.place is)
+map-place s before r after (Maps.room taken short is same) = omega (arith, ap mapper.place is)
+map-place s before r after (Maps.mapped sheet taken long to is same) = omega (arith, sheet-length s sheet taken to, ap mapper.place is)
 
 -- the first rule that is broken is one of the list
 broken-member : {Kept : Rule → Type 0} {rules : List Rule} {r : Rule} → FirstBroken Kept rules (Found.broken r) → List·Memᴰ r rules
 broken-member (FirstBroken.here none) = List·Memᴰ·head refl
 broken-member (FirstBroken.later kept rest) = List·Memᴰ·tail (broken-member rest)
+
+-- the place that names a rule
+abbrev rulePlace : Rule → ℕ
+rulePlace r = inspector.place (replyOf 0 (Found.broken r))
 
 -- the rules of a sheet are tried at nodes
 module _ (net : Net) (sheet : Sheet) (span : net .inputs ≤ net .nodes) (roots : (lut : Lut) → List·Memᴰ lut (sheet .luts) → lut .root < net .nodes) where
@@ -127,7 +109,7 @@ module _ (s t : List ℕ) (bytes : (i : ℕ) → getD t i 0 < 256) where
   few : found s .verdict ≡ Sound → nodesOf s ≤ 192
   few whole = table-sound s whole .head .nodes-most
 
-  broken-low : Drawable s t → reading (dueIn s) t .ruling ≡ ruling.Sound → {Kept : Rule → Type 0} (x : Found) →
+  broken-low : IsTaken s → reading (dueIn s) t .ruling ≡ ruling.Sound → {Kept : Rule → Type 0} (x : Found) →
       FirstBroken Kept (rulesOf (netOf (tableOf s)) (sheetIn s t)) x → (r : Rule) → x ≡ Found.broken r → rulePlace r ≤ 192
   broken-low d sound {Kept} x first r e =
       let net = netOf (tableOf s) in
@@ -138,6 +120,6 @@ module _ (s t : List ℕ) (bytes : (i : ℕ) → getD t i 0 < 256) where
 
   pub inspect-place : (r : Inspection) → Inspects s t r → inspector.place r < half
   inspect-place r (Inspects.refused e) = omega (arith, refused-place s e)
-  inspect-place r (Inspects.loop e l) = omega (arith, loop-node l, nodes-few s e)
+  inspect-place r (Inspects.loop e l) = omega (arith, l .gate .below, nodes-few s e)
   inspect-place r (Inspects.faulty d e) = omega (arith, fault-place (dueIn s) t bytes (omega (arith, few (d .whole))) e)
   inspect-place r (Inspects.ruled {x = x} d sound first) = reply-place (sheetIn s t .depth) x (depth-most (dueIn s) t sound) (broken-low d sound x first)

@@ -1,5 +1,2 @@
-pub mod Listed
-pub mod Tables
-pub mod Fronts
 pub mod Replies
 pub mod One

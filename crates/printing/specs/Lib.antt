@@ -1,3 +1,1 @@
-pub mod Filled
-pub mod Lists
-pub mod Reports
+pub mod paper

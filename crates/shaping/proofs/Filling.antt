@@ -6,15 +6,15 @@ use mathlib.Core.List.{List}
 use lib.ListN.{length, getD, set, length-set}
 use lib.Seq.{getD-set-same, getD-set-other, ext-getD}
 use native.Mathlib.Decide.{decLe}
-use Rattle.theory.specs.Values.{bit}
-use Rattle.drawing.specs.Bytes.{numberAt}
-use Rattle.sheet.specs.Sheet.{Line, Lut, noLine}
-use Rattle.sheet.specs.Shape.{Due, idsAt, lineAt, lutAt}
-use Rattle.sheet.specs.Rules.{lineOfNode, isListed, leavesListed, tableListed}
+use Rattle.theory.specs.paper.Values.{bit}
+use Rattle.drawing.specs.paper.Bytes.{numberAt, idsAt}
+use Rattle.drawing.specs.Bytes.{SmallAt}
+use Rattle.sheet.specs.paper.Sheet.{Line, Lut, noLine}
+use Rattle.sheet.specs.paper.Shape.{Due, lineAt, lutAt}
+use Rattle.sheet.specs.paper.Rules.{lineOfNode, isListed, leavesListed, tableListed}
 use Rattle.shaping.specs.Loading.{Filled, counted, sevens, placeOf, LineArrays, lineArrays, LineRoom, LinePut}
 use Rattle.shaping.specs.Loading.{LinesFilled, Listed, noneListed, lutListed, listedAt, LutArrays, lutArrays}
 use Rattle.shaping.specs.Loading.{LutRoom, LutPut, LutsFilled}
-use Rattle.shaping.specs.Numbers.{SmallAt}
 
 module _ (before : List ℕ) (low : ℕ) (f : ℕ → ℕ) where
   pub filled-none : Filled before low low f before
@@ -114,15 +114,6 @@ module _ {inputs : ℕ} {s : List ℕ} {lines : List Line} where
       LinesFilled inputs s lines before low high′ after
   lines-to e one = rw (← e) one
 
-  pub lines-join : {before between after : LineArrays} {low mid high : ℕ} → low ≤ mid → mid ≤ high → LinesFilled inputs s lines before low mid between →
-      LinesFilled inputs s lines between mid high after → LinesFilled inputs s lines before low high after
-  lines-join {mid = mid} {high = high} low-mid mid-high one two =
-      record {
-        labels = filled-then mid high low-mid mid-high (one .labels) (two .labels) (λ i more less. refl);
-        cuts = filled-then (7 * mid) (7 * high) (omega (arith, low-mid)) (omega (arith, mid-high)) (one .cuts) (two .cuts) (λ i more less. refl);
-        places = filled-then mid high low-mid mid-high (one .places) (two .places) (λ i more less. refl);
-      }
-
   -- the arrays stay as long as they were
   pub lines-room : {nodes low high : ℕ} {before after : LineArrays} (v : ℕ) → v ≤ nodes → LineRoom nodes before →
       LinesFilled inputs s lines before low high after → LineRoom v after
@@ -186,11 +177,9 @@ module _ {luts : List Lut} where
 module _ (s : List ℕ) (v : ℕ) {cuts cuts′ : List ℕ}
     (bare : Filled cuts (7 * v) (7 * v + 7) (λ i. getD (counted (idsAt s 0 1 0)) (i - 7 * v) 0) cuts′) where
   pub no-line-put : {labels places : List ℕ} → LinePut noLine 0 v (lineArrays labels cuts places) (lineArrays (set labels v 0) cuts′ (set places v 0))
-  unfolding idsAt
   no-line-put = record { labels = refl; cuts = bare; places = refl }
 
   pub no-lut-put : {luts tables : List ℕ} → LutPut noneListed v (lutArrays luts cuts tables) (lutArrays (set luts v 0) cuts′ (set tables v 0))
-  unfolding idsAt
   no-lut-put = record { luts = refl; cuts = bare; tables = refl }
 
 module _ (due : Due) (s : List ℕ) (at v : ℕ) {count : ℕ} (count-read : SmallAt s (at + 3 + due .form .width) 1 count) {cuts cuts′ : List ℕ}

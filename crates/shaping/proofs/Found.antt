@@ -7,18 +7,18 @@ use mathlib.Core.List.{List, _∷_}
 use borrow.Author.Tests.{lt-ltb, le-ltb, eq-eqb, ne-eqb, ltb-false, leb-false}
 use lib.ListN.{length, getD}
 use lib.Dec.{ltb, leb}
-use Rattle.drawing.specs.Bytes.{numberAt, valueAt}
+use Rattle.drawing.specs.paper.Bytes.{numberAt, valueAt}
+use Rattle.drawing.specs.Bytes.{Narrow}
 use Rattle.sheet.specs.declared.Fault.the-variants.{Extra}
 use Rattle.sheet.specs.declared.Ruling.{Ruling}
 use Rattle.sheet.specs.declared.Ruling.the-variants.{Sound, Faulty}
-use Rattle.sheet.specs.Sheet.{Line, Lut, Sheet, noLine}
-use Rattle.sheet.specs.Shape.{Due, endAt, depthAt, countAt, headRuling, lineAt, lineRuling, lutAt, lutRuling}
-use Rattle.sheet.specs.Shape.{leavesRange, Fields, andField, linesFrom, lutsFrom, afterHead, afterLines, afterLuts}
-use Rattle.sheet.specs.Shape.{reading}
-use Rattle.sheet.specs.Rules.{lineOfNode, isListed, leavesListed, tableListed}
+use Rattle.sheet.specs.paper.Sheet.{Line, Lut, Sheet, noLine}
+use Rattle.sheet.specs.paper.Shape.{Due, endAt, depthAt, countAt, headRuling, lineAt, lineRuling, lutAt, lutRuling}
+use Rattle.sheet.specs.paper.Shape.{leavesRange, Fields, andField, linesFrom, lutsFrom, afterHead, afterLines, afterLuts}
+use Rattle.sheet.specs.paper.Shape.{reading}
+use Rattle.sheet.specs.paper.Rules.{lineOfNode, isListed, leavesListed, tableListed}
 use Rattle.shaping.specs.Loading.{startOf, placeOf, LineArrays, LineRoom, LinePut, LinesFilled, noneListed, lutListed, listedAt, LutArrays, LutsFilled}
-use Rattle.shaping.specs.Terms.{Narrow}
-use Rattle.shaping.specs.Turns.{LineReady, GatesLoaded, nextRoot, LutsLeft}
+use Rattle.shaping.specs.Turns.{LineReady, LinesLoaded, nextRoot, LutsLeft}
 use Rattle.shaping.proofs.Rulings.{not-sound}
 use Rattle.shaping.proofs.Values.{or-none, line-parts}
 use Rattle.shaping.proofs.FieldRuns.{luts-step, line-kept, line-end, lut-kept, lut-whole}
@@ -304,42 +304,54 @@ module _ (due : Due) (s : List ℕ) where
         same = λ u more. ap (λ (sheet : Sheet). listedAt (sheet .luts) u) (all .sheet);
       })
 
--- what the loop over the gates keeps
-pub record GatesLoading (due : Due) (s : List ℕ) (before after : LineArrays) (v at : ℕ) : Type 0 where
-  pub least : due .inputs ≤ v
+-- what the loop over the nodes keeps of the lines
+pub record LinesLoading (due : Due) (s : List ℕ) (before after : LineArrays) (v at : ℕ) : Type 0 where
   pub most : v ≤ due .nodes
   pub reached : at ≡ startOf s (endAt s 0) (v - due .inputs)
-  pub filled : LinesFilled (due .inputs) s (reading due s .sheet .lines) before (due .inputs) v after
+  pub filled : LinesFilled (due .inputs) s (reading due s .sheet .lines) before 0 v after
 
-module _ {due : Due} {s : List ℕ} (all : Whole due s) where
-  gate-here : {before after : LineArrays} {v at : ℕ} → GatesLoading due s before after v at → v < due .nodes → GateFound due s v at
-  gate-here {v = v} l less = rw (l .reached) (gate-found due s all v (l .least) less)
-
-  pub gate-end : {before after : LineArrays} {v at : ℕ} → GatesLoading due s before after v at → v < due .nodes → endAt s at ≤ length s
-  gate-end {at = at} l less = line-end due s at (gate-here l less .ruled)
-
-  pub gate-ready : {before after : LineArrays} {v at : ℕ} → GatesLoading due s before after v at → v < due .nodes → Narrow (due .form .width) →
-      length s < 2 ^ 32 → LineReady due s at
-  gate-ready {at = at} l less narrow short =
-      let ruled = gate-here l less .ruled in
+module _ {due : Due} {s : List ℕ} {before between : LineArrays} {v at : ℕ} (l : LinesLoading due s before between v at) where
+  -- an input's turn: no field is passed
+  pub input-more : {after : LineArrays} → due .inputs ≤ due .nodes → v < due .inputs → LineRoom (due .nodes) before →
+      LinePut noLine 0 v between after → LinesLoading due s before after (v + 1) at
+  input-more gates less room put =
+      let i : v - due .inputs ≡ v + 1 - due .inputs = omega (arith, less) in
       record {
-        narrow = narrow;
-        whole = omega (arith, line-parts due s at (line-kept due s at ruled .right) .paths, line-end due s at ruled);
-        short = short;
-      }
-
-  pub gate-more : {before between after : LineArrays} {v at next : ℕ} → GatesLoading due s before between v at → v < due .nodes →
-      LineRoom (due .nodes) before → LinePut (lineAt due s at) at v between after → next ≡ endAt s at → GatesLoading due s before after (v + 1) next
-  gate-more {v = v} {at = at} l less room put to =
-      let i : v + 1 - due .inputs ≡ suc (v - due .inputs) = omega (arith, l .least) in
-      record {
-        least = omega (arith, l .least);
-        most = omega (arith, less);
-        reached = to ∙ ap (endAt s) (l .reached) ∙ sym (start-more s (endAt s 0) (v - due .inputs)) ∙ ap (startOf s (endAt s 0)) (sym i);
+        most = omega (arith, less, gates);
+        reached = l .reached ∙ ap (startOf s (endAt s 0)) i;
         filled =
-            lines-put (l .least) (line-room (v + 1) (omega (arith, less)) room) (l .filled) put (gate-here l less .line)
-            (l .reached ∙ gate-place due s v (l .least));
+            lines-put (omega arith) (line-room (v + 1) (omega (arith, less, gates)) room) (l .filled) put
+            (input-line due s (reading due s .sheet .lines) v less) (input-place due s v less);
       }
+
+  -- a gate's turn
+  module _ (all : Whole due s) (least : due .inputs ≤ v) (less : v < due .nodes) where
+    gate-here : GateFound due s v at
+    gate-here = rw (l .reached) (gate-found due s all v least less)
+
+    pub gate-end : endAt s at ≤ length s
+    gate-end = line-end due s at (gate-here .ruled)
+
+    pub gate-ready : Narrow (due .form .width) → length s < 2 ^ 32 → LineReady due s at
+    gate-ready narrow short =
+        let ruled = gate-here .ruled in
+        record {
+          narrow = narrow;
+          whole = omega (arith, line-parts due s at (line-kept due s at ruled .right) .paths, line-end due s at ruled);
+          short = short;
+        }
+
+    pub gate-more : {after : LineArrays} {next : ℕ} → LineRoom (due .nodes) before → LinePut (lineAt due s at) at v between after →
+        next ≡ endAt s at → LinesLoading due s before after (v + 1) next
+    gate-more room put to =
+        let i : v + 1 - due .inputs ≡ suc (v - due .inputs) = omega (arith, least) in
+        record {
+          most = omega (arith, less);
+          reached = to ∙ ap (endAt s) (l .reached) ∙ sym (start-more s (endAt s 0) (v - due .inputs)) ∙ ap (startOf s (endAt s 0)) (sym i);
+          filled =
+              lines-put (omega arith) (line-room (v + 1) (omega (arith, less)) room) (l .filled) put (gate-here .line)
+              (l .reached ∙ gate-place due s v least);
+        }
 
 -- what the loop over the nodes keeps of the LUTs
 pub record LutsLoading (due : Due) (s : List ℕ) (before after : LutArrays) (v count at : ℕ) : Type 0 where
@@ -348,18 +360,13 @@ pub record LutsLoading (due : Due) (s : List ℕ) (before after : LutArrays) (v 
   pub filled : LutsFilled (reading due s .sheet .luts) before v after
 
 module _ {due : Due} {s : List ℕ} where
-  pub gates-begin : {a : LineArrays} {at : ℕ} → due .inputs ≤ due .nodes → at ≡ endAt s 0 → GatesLoading due s a a (due .inputs) at
+  pub lines-loading : {a : LineArrays} {at : ℕ} → at ≡ endAt s 0 → LinesLoading due s a a 0 at
   unfolding startOf
-  gates-begin {a} gates begun =
-      let none : 0 ≡ due .inputs - due .inputs = omega arith in
-      record {
-        least = omega arith;
-        most = gates;
-        reached = begun ∙ ap (startOf s (endAt s 0)) none;
-        filled = lines-begin (due .inputs) a;
-      }
+  lines-loading {a} begun =
+      let none : 0 ≡ 0 - due .inputs = omega arith in
+      record { most = omega arith; reached = begun ∙ ap (startOf s (endAt s 0)) none; filled = lines-begin 0 a }
 
-  pub gates-done : {before after : LineArrays} {v at : ℕ} → GatesLoading due s before after v at → due .nodes ≤ v → GatesLoaded due s before at after
-  gates-done {v = v} l done =
+  pub lines-loaded : {before after : LineArrays} {v at : ℕ} → LinesLoading due s before after v at → due .nodes ≤ v → LinesLoaded due s before at after
+  lines-loaded {v = v} l done =
       let all : v ≡ due .nodes = omega (arith, l .most, done) in
       record { end = l .reached ∙ ap (λ (n : ℕ). startOf s (endAt s 0) (n - due .inputs)) all; filled = lines-to all (l .filled) }

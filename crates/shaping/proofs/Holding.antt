@@ -9,14 +9,14 @@ use borrow.Author.Tests.{ltb-false}
 use lib.ListN.{length, getD}
 use lib.Seq.{ext-getD}
 use lib.Dec.{ltb, leb, eqb}
-use Rattle.theory.specs.Evidence.{joined}
+use Rattle.theory.specs.paper.Evidence.{joined}
 use Rattle.storage.specs.Lists.{sizeAt, listAt}
 use Rattle.storage.proofs.InLists.{list-size, list-entry}
-use Rattle.drawing.specs.Bytes.{someFrom}
+use Rattle.drawing.specs.paper.Bytes.{someFrom}
 use Rattle.sheet.specs.declared.Ruling.the-variants.{Sound}
-use Rattle.sheet.specs.Sheet.{Line, Lut, Sheet}
-use Rattle.sheet.specs.Shape.{Due, endAt, rising, someEmpty, leavesRange, lineRange, lutRange, lineAt, lutAt, lineRuling, lutRuling, countAt, lutsFrom, reading}
-use Rattle.sheet.specs.Rules.{lineOfNode, leavesListed}
+use Rattle.sheet.specs.paper.Sheet.{Line, Lut, Sheet}
+use Rattle.sheet.specs.paper.Shape.{Due, endAt, rising, someEmpty, leavesRange, lineRange, lutRange, lineAt, lutAt, lineRuling, lutRuling, countAt, lutsFrom, reading}
+use Rattle.sheet.specs.paper.Rules.{lineOfNode, leavesListed}
 use Rattle.sheet.specs.Arrays.{HoldsLines, HoldsPlaces, HoldsLuts}
 use Rattle.shaping.specs.Loading.{Filled, counted, sevens, startOf, LineArrays, lineArrays, LineRoom, LutArrays, lutArrays, LutRoom, Loadable, Loaded}
 use Rattle.shaping.proofs.Values.{or-none}

@@ -8,17 +8,17 @@ use mathlib.Core.List.{List, [], flatMap}
 use borrow.Author.Tests.{ltb-false}
 use lib.ListN.{length, length-append}
 use lib.Dec.{ltb, eqb}
-use Rattle.drawing.specs.Bytes.{numberAt}
+use Rattle.drawing.specs.paper.Bytes.{numberAt, idsAt}
 use Rattle.sheet.specs.declared.Ruling.{Ruling}
 use Rattle.sheet.specs.declared.Ruling.the-variants.{Sound, Faulty}
-use Rattle.sheet.specs.Sheet.{Sheet}
-use Rattle.sheet.specs.Encoding.{pathBytes, headField, lineField, lutField, encode}
-use Rattle.sheet.specs.Shape.{Due, endAt, idsAt, pathEnd, pathsAt, depthAt, countAt, headRuling, leavesCount, lineCut}
-use Rattle.sheet.specs.Shape.{linePaths, lineAt, lineRuling, lutCut, lutAt, lutRuling, Fields, andField, linesFrom}
-use Rattle.sheet.specs.Shape.{lutsFrom, reading}
+use Rattle.sheet.specs.paper.Sheet.{Sheet}
+use Rattle.sheet.specs.paper.Encoding.{pathBytes, headField, lineField, lutField, encode}
+use Rattle.sheet.specs.paper.Shape.{Due, endAt, pathEnd, pathsAt, depthAt, countAt, headRuling, leavesCount, lineCut}
+use Rattle.sheet.specs.paper.Shape.{linePaths, lineAt, lineRuling, lutCut, lutAt, lutRuling, Fields, andField, linesFrom}
+use Rattle.sheet.specs.paper.Shape.{lutsFrom, reading}
 use Rattle.sheet.proofs.Lengths.{length-three, length-path, length-paths, length-head, length-line, length-lut}
 use Rattle.shaping.specs.Numbers.{pathsEnd}
-use Rattle.shaping.proofs.Ids.{length-ids-at}
+use Rattle.drawing.proofs.Ids.{length-ids}
 use Rattle.shaping.proofs.Rulings.{not-sound}
 use Rattle.shaping.proofs.Values.{or-none, line-parts, lut-parts}
 use Rattle.shaping.proofs.FieldRuns.{head-kept, head-size, head-end, line-kept, line-end, lut-kept, lut-end}
@@ -35,7 +35,7 @@ paths-sized s width at (suc q) =
       paths-sized s width (pathEnd s at width) q,
       length-append (pathBytes width path) (flatMap (pathBytes width) (pathsAt s (pathEnd s at width) width q)),
       length-path width path,
-      ap (λ (n : ℕ). n * width) (length-ids-at s (at + width) width (numberAt s at width)),
+      ap (λ (n : ℕ). n * width) (length-ids s (at + width) width (numberAt s at width)),
     )
 
 -- What a sound field says: the head, how many LUTs there are at most; a line and a LUT, where their encodings would end.
@@ -58,7 +58,7 @@ module _ (due : Due) (s : List ℕ) where
         paths-sized s width (linePaths due s at + 1) (numberAt s (linePaths due s at) 1),
         length-line (due .form) (lineAt due s at),
         length-paths width (lineAt due s at .paths),
-        ap (λ (n : ℕ). n * width) (length-ids-at s (lineCut due s at + 1) width (leavesCount due s (lineCut due s at))),
+        ap (λ (n : ℕ). n * width) (length-ids s (lineCut due s at + 1) width (leavesCount due s (lineCut due s at))),
       )
 
   lut-sized : (least at : ℕ) → lutRuling due s least at ≡ Sound → endAt s at ≡ at + length (lutField (due .form) (lutAt due s at))
@@ -68,7 +68,7 @@ module _ (due : Due) (s : List ℕ) where
         arith,
         lut-parts due s at (lut-kept due s least at ruled .right),
         length-lut (due .form) (lutAt due s at),
-        ap (λ (n : ℕ). n * width) (length-ids-at s (lutCut due s at + 1) width (leavesCount due s (lutCut due s at))),
+        ap (λ (n : ℕ). n * width) (length-ids s (lutCut due s at + 1) width (leavesCount due s (lutCut due s at))),
       )
 
 -- A sound run of `count` fields from `at` on: so many are read, and they end where their encodings would, within the bytes.

@@ -7,12 +7,13 @@ use mathlib.Core.List.{List, _∷_}
 use borrow.Author.Tests.{le-leb, lt-leb, eq-eqb, ne-eqb, eqb-true, not-true, not-false}
 use lib.ListN.{length}
 use lib.Dec.{leb, eqb}
-use Rattle.theory.specs.Evidence.{joined}
-use Rattle.drawing.specs.Bytes.{someFrom}
+use Rattle.theory.specs.paper.Evidence.{joined}
+use Rattle.drawing.specs.paper.Bytes.{someFrom, idsAt}
+use Rattle.drawing.specs.Bytes.{SmallAt}
 use Rattle.drawing.proofs.Digits.{some-from-append}
-use Rattle.sheet.specs.Shape.{idsAt, pathEnd, pathsAt, pathsUse, someEmpty}
-use Rattle.shaping.specs.Numbers.{SmallAt, pathsEnd}
-use Rattle.shaping.proofs.Ids.{from-one, length-ids-at}
+use Rattle.sheet.specs.paper.Shape.{pathEnd, pathsAt, pathsUse, someEmpty}
+use Rattle.shaping.specs.Numbers.{pathsEnd}
+use Rattle.drawing.proofs.Ids.{length-ids, from-one}
 
 second-true : (a b : Bool) → (a && b) ≡ true → b ≡ true
 second-true true b e = e
@@ -100,7 +101,7 @@ module _ (s : List ℕ) (width : ℕ) where
       unfolding someEmpty
       range-empty none =
           ap (λ (ps : List (List ℕ)). someEmpty ps || someFrom nodes (joined ps)) as-read
-          ∙ rw (eq-eqb (length path) 0 (length-ids-at s (at + width) width size ∙ none))
+          ∙ rw (eq-eqb (length path) 0 (length-ids s (at + width) width size ∙ none))
 
       module _ {below : Bool} (told : below ≡ not (someFrom nodes path)) where
         pub range-far : below ≡ false → outOfRange nodes at left ≡ true
@@ -116,5 +117,5 @@ module _ (s : List ℕ) (width : ℕ) where
             ∙ rw (
               some-from-append nodes path (joined rest),
               not-true (someFrom nodes path) (sym told ∙ near),
-              ne-eqb (length path) 0 (λ e. filled (sym (length-ids-at s (at + width) width size) ∙ e)),
+              ne-eqb (length path) 0 (λ e. filled (sym (length-ids s (at + width) width size) ∙ e)),
             )

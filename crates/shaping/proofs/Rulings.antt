@@ -1,23 +1,54 @@
--- A field's ruling from its frame's and its value's.
-use Prim.Native.Nat.{ℕ, _-_, _≤_}
+-- A field's ruling from what is told of it, and from its frame's and its value's.
+use Prim.Native.Nat.{ℕ, _-_, _<_, _≤_}
 use native.Mathlib.Omega.{arith}
-use mathlib.Core.Path.{_≡_, refl, sym, _∙_}
-use mathlib.Core.Bool.{Bool, true, false, not}
+use mathlib.Core.Path.{_≡_, refl, ap, sym, _∙_}
+use mathlib.Core.Bool.{Bool, true, false, not, cond}
 use mathlib.Core.List.{List, _∷_}
-use borrow.Author.Tests.{ltb-false, not-true, not-false}
+use borrow.Author.Tests.{ltb-true, ltb-false, not-true, not-false}
 use lib.ListN.{length}
 use lib.Dec.{ltb, eqb}
-use Rattle.drawing.specs.Rules.{_⇒_, first}
-use Rattle.drawing.specs.Bytes.{tagAt, lengthAt, valueAt}
+use Rattle.drawing.specs.paper.Limits.{frameSize}
+use Rattle.drawing.specs.paper.Rules.{_⇒_, first}
+use Rattle.drawing.specs.paper.Bytes.{tagAt, lengthAt, valueAt}
 use Rattle.sheet.specs.declared.Fault.{Fault}
 use Rattle.sheet.specs.declared.Fault.the-variants.{Torn, Tag, Length, Range}
 use Rattle.sheet.specs.declared.Ruling.{Ruling}
 use Rattle.sheet.specs.declared.Ruling.the-variants.{Sound, Faulty}
-use Rattle.sheet.specs.Shape.{fieldRules, endAt}
-use Rattle.shaping.specs.Fields.{valueRules}
+use Rattle.sheet.specs.paper.Shape.{fieldRules, endAt}
+use Rattle.shaping.specs.declared.fields.Front.{Front}
+use Rattle.shaping.specs.declared.fields.Field.{Field}
+use Rattle.shaping.specs.declared.fields.Field.the-variants.{Short, Begun}
+use Rattle.shaping.specs.Fields.{fieldAt, valueRules}
 
 pub not-sound : {f : Fault} → Faulty f ≡ Sound → ⊥
 not-sound e = let z : _≡_ {A = ℕ} 0 1 = cc in omega arith
+
+-- what is told of a field, either way
+told-short : (short : Bool) (front : Front) → cond short Short (Begun front) ≡ Short → short ≡ true
+told-short true front e = refl
+told-short false front e = absurd (let z : _≡_ {A = ℕ} 0 1 = cc in omega arith)
+
+told-begun : (short : Bool) (front x : Front) → cond short Short (Begun front) ≡ Begun x → (short ≡ false) × (front ≡ x)
+told-begun true front x e = absurd (let z : _≡_ {A = ℕ} 0 1 = cc in omega arith)
+told-begun false front x e = (refl, cc)
+
+module _ (s : List ℕ) (at : ℕ) {field : Field} (told : field ≡ fieldAt s at) where
+  pub field-short : field ≡ Short → length s - at < frameSize
+  field-short e = ltb-true (length s - at) frameSize (told-short (ltb (length s - at) frameSize) _ (sym told ∙ e))
+
+  pub record Begins (x : Front) : Type 0 where
+    pub long : frameSize ≤ length s - at
+    pub tag : x .tag ≡ tagAt s at
+    pub size : x .size ≡ lengthAt s at
+
+  pub field-begun : {x : Front} → field ≡ Begun x → Begins x
+  field-begun {x} e =
+      let both = told-begun (ltb (length s - at) frameSize) (record { tag = tagAt s at; size = lengthAt s at }) x (sym told ∙ e) in
+      record {
+        long = ltb-false (length s - at) frameSize (both .0);
+        tag = ap (λ (f : Front). f .tag) (sym (both .1));
+        size = ap (λ (f : Front). f .size) (sym (both .1));
+      }
 
 -- the five rules of a field at `at`: the first three do not look at the others
 module _ (at : ℕ) where
@@ -59,7 +90,7 @@ module _ (at : ℕ) where
 
 module _ (s : List ℕ) (at tag : ℕ) where
   torn : Bool
-  torn = ltb (length s - at) 3
+  torn = ltb (length s - at) frameSize
 
   other : Bool
   other = not (eqb (tagAt s at) tag)
@@ -69,7 +100,7 @@ module _ (s : List ℕ) (at tag : ℕ) where
 
   -- what a sound field keeps
   pub record Kept (length-wrong out-of-range : Bool) : Type 0 where
-    pub begun : 3 ≤ length s - at
+    pub begun : frameSize ≤ length s - at
     pub inside : lengthAt s at ≤ length s - valueAt at
     pub right : length-wrong ≡ false
     pub ranged : out-of-range ≡ false
@@ -79,7 +110,7 @@ module _ (s : List ℕ) (at tag : ℕ) where
   field-kept {a} {b} sound =
       let rules = none-holds at torn other past a b sound in
       record {
-        begun = ltb-false (length s - at) 3 (rules .0);
+        begun = ltb-false (length s - at) frameSize (rules .0);
         inside = ltb-false (length s - valueAt at) (lengthAt s at) (rules .2);
         right = rules .3;
         ranged = rules .4;

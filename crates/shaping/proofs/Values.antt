@@ -7,9 +7,12 @@ use mathlib.Core.List.{List}
 use borrow.Author.Tests.{lt-ltb, le-ltb, le-leb, lt-leb, eq-eqb, ne-eqb, ltb-false, eqb-true, not-true, not-false}
 use lib.ListN.{length}
 use lib.Dec.{ltb, eqb}
-use Rattle.drawing.specs.Bytes.{numberAt, lengthAt}
-use Rattle.sheet.specs.Shape.{Due, endAt, pathsUse, depthAt, countAt, leavesRange, leavesAt, leavesEnd, lineCut, linePaths, lineAt, lineRange, lineLengthWrong, lutCut, lutAt, lutRange, lutLengthWrong}
-use Rattle.shaping.specs.Numbers.{SmallAt, pathsEnd}
+use Rattle.drawing.specs.paper.Bytes.{numberAt, lengthAt}
+use Rattle.drawing.specs.Bytes.{SmallAt}
+use Rattle.sheet.specs.paper.Shape.{Due, endAt, pathsUse, depthAt, countAt, leavesRange, leavesAt, leavesEnd, lineCut}
+use Rattle.sheet.specs.paper.Shape.{linePaths, lineAt, lineRange, lineLengthWrong, lutCut, lutAt, lutRange}
+use Rattle.sheet.specs.paper.Shape.{lutLengthWrong}
+use Rattle.shaping.specs.Numbers.{pathsEnd}
 use Rattle.shaping.specs.Fields.{headOutOfRange}
 use Rattle.shaping.proofs.PathLists.{paths-length, used-to, outOfRange}
 

@@ -2,6 +2,5 @@ pub mod Terms
 pub mod Numbers
 pub mod Fields
 pub mod Runs
-pub mod Judging
 pub mod Loading
 pub mod Turns

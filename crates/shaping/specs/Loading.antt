@@ -5,13 +5,13 @@ use mathlib.Core.Bool.{Bool, true, false, cond}
 use mathlib.Core.List.{List, [], _∷_}
 use lib.ListN.{length, getD, set}
 use lib.Dec.{ltb}
-use Rattle.theory.specs.Values.{bit}
-use Rattle.drawing.specs.Limits.{mostK}
+use Rattle.theory.specs.paper.Values.{bit}
+use Rattle.drawing.specs.Bytes.{Narrow}
+use Rattle.drawing.specs.paper.Limits.{mostK}
 use Rattle.sheet.specs.declared.Ruling.the-variants.{Sound}
-use Rattle.sheet.specs.Sheet.{Line, Lut}
-use Rattle.sheet.specs.Shape.{Due, endAt, reading}
-use Rattle.sheet.specs.Rules.{lineOfNode, isListed, leavesListed, tableListed}
-use Rattle.shaping.specs.Terms.{Narrow}
+use Rattle.sheet.specs.paper.Sheet.{Line, Lut}
+use Rattle.sheet.specs.paper.Shape.{Due, endAt, reading}
+use Rattle.sheet.specs.paper.Rules.{lineOfNode, isListed, leavesListed, tableListed}
 
 -- Entries `low` to `high` of an array are those of f, and the others as before.
 pub record Filled (before : List ℕ) (low high : ℕ) (f : ℕ → ℕ) (after : List ℕ) : Type 0 where
@@ -36,7 +36,7 @@ startOf s at (suc i) = startOf s (endAt s at) i
 unfoldable pub placeOf : (inputs : ℕ) → List ℕ → ℕ → ℕ
 placeOf inputs s v = cond (ltb v inputs) 0 (startOf s (endAt s 0) (v - inputs))
 
--- The arrays for the lines.
+-- The arrays for the lines: a label, a cut and the place of its field a node.
 pub record LineArrays : Type 0 where
   pub labels : List ℕ
   pub cuts : List ℕ
@@ -50,7 +50,7 @@ pub record LineRoom (nodes : ℕ) (a : LineArrays) : Type 0 where
   pub cuts : 7 * nodes ≤ length (a .cuts)
   pub places : nodes ≤ length (a .places)
 
--- one node's line, and its place
+-- node v's line stored, and the place of its field
 pub record LinePut (line : Line) (place v : ℕ) (before after : LineArrays) : Type 0 where
   pub labels : after .labels ≡ set (before .labels) v (line .label)
   pub cuts : Filled (before .cuts) (7 * v) (7 * v + 7) (λ i. getD (counted (line .leaves)) (i - 7 * v) 0) (after .cuts)
@@ -77,7 +77,7 @@ lutListed lut = record { root = true; leaves = lut .leaves; table = lut .table }
 abbrev pub listedAt : List Lut → ℕ → Listed
 listedAt luts v = record { root = isListed luts v; leaves = leavesListed luts v; table = tableListed luts v }
 
--- The arrays for the LUTs.
+-- The arrays for the LUTs: a mark, a cut and a table a node.
 pub record LutArrays : Type 0 where
   pub luts : List ℕ
   pub cuts : List ℕ
@@ -91,7 +91,7 @@ pub record LutRoom (nodes : ℕ) (a : LutArrays) : Type 0 where
   pub cuts : 7 * nodes ≤ length (a .cuts)
   pub tables : nodes ≤ length (a .tables)
 
--- what is listed for one node
+-- node v's mark, leaves and table stored
 pub record LutPut (listed : Listed) (v : ℕ) (before after : LutArrays) : Type 0 where
   pub luts : after .luts ≡ set (before .luts) v (bit (listed .root))
   pub cuts : Filled (before .cuts) (7 * v) (7 * v + 7) (λ i. getD (counted (listed .leaves)) (i - 7 * v) 0) (after .cuts)

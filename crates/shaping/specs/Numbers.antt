@@ -1,15 +1,7 @@
--- Numbers of a sheet, and where paths end.
-use Prim.Native.Nat.{ℕ, zero, suc, _<_, _^_}
-use mathlib.Core.Path.{_≡_}
+-- Where the paths of a line end.
+use Prim.Native.Nat.{ℕ, zero, suc}
 use mathlib.Core.List.{List}
-use Rattle.drawing.specs.Bytes.{numberAt}
-use Rattle.sheet.specs.Shape.{pathEnd}
-
--- r is the number at a place, and fits its bytes, which are two at most
-pub record SmallAt (s : List ℕ) (at width r : ℕ) : Type 0 where
-  pub number : r ≡ numberAt s at width
-  pub small : r < 256 ^ width
-  pub fits : r < 65536
+use Rattle.sheet.specs.paper.Shape.{pathEnd}
 
 -- where `q` paths end that begin at `at`
 unfoldable pub pathsEnd : List ℕ → (at width q : ℕ) → ℕ

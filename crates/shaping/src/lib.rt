@@ -7,68 +7,28 @@ mod reader;
 mod runs;
 mod storing;
 
-use crate::fields::head_ruling;
 use crate::loading::load_lines;
 use crate::loading::load_luts;
-use crate::numbers::small_at;
-use crate::reader::passed;
-use crate::runs::Reached;
-use crate::runs::judge_lines;
-use crate::runs::judge_luts;
-use sheet::Fault;
+use crate::numbers::label_at;
+use crate::runs::Run;
+use crate::runs::judge_fields;
 use sheet::Form;
 use sheet::Ruling;
+use sheet::limits::DEPTH_AT;
 use storage::Label;
 use storage::Numbers;
 ghost use mathlib.Core.Path.{_≡_};
 ghost use Prim.Native.Nat.{_≤_};
-ghost use lib.ListN.{length};
-ghost use Rattle.sheet.specs.Shape.{reading, headRuling};
-ghost use Rattle.shaping.specs.Terms.{dueOf, Narrow};
+ghost use Rattle.drawing.specs.Bytes.{Narrow};
+ghost use Rattle.sheet.specs.paper.Shape.{reading};
+ghost use Rattle.shaping.specs.Terms.{dueOf};
 ghost use Rattle.shaping.specs.Loading.{lineArrays, LineRoom, lutArrays, LutRoom, Loadable, Loaded};
-ghost use Rattle.shaping.specs.Judging.{afterHeadRuling, afterLinesRuling};
 
 // What a sheet is read by: its form, the greatest depth and label, and the numbers of the drawing.
 pub struct Terms {
     pub form: Form,
-    pub most: usize,
+    pub most: Label,
     pub numbers: Numbers,
-}
-
-// The LUTs from `at` on, and that nothing follows them.
-fn judge_from_luts(terms: Terms, sheet: &[u8], at: usize) -> Ruling
-    requires { ⌜ Narrow (terms .form .width) ⌝ }
-    requires { ⌜ headRuling (dueOf terms) (now sheet) ≡ Ruling.Sound ⌝ }
-    requires { ⌜ at ≤ length (now sheet) ⌝ }
-    ensures { λ r. ⌜ r ≡ afterLinesRuling (dueOf terms) (now (sheet .entry)) at ⌝ }
-{
-    let width = terms.form.width;
-    let count = small_at(sheet, 4 + width, width);
-    let luts = judge_luts(terms, sheet, at, count);
-    match luts {
-        Reached::FaultyFor(f) => Ruling::Faulty(f),
-        Reached::Place(next) => {
-            if next < sheet.len() {
-                return Ruling::Faulty(Fault::Extra(next));
-            }
-            Ruling::Sound
-        }
-    }
-}
-
-// What follows a sound head.
-fn judge_from_lines(terms: Terms, sheet: &[u8]) -> Ruling
-    requires { ⌜ Narrow (terms .form .width) ⌝ }
-    requires { ⌜ terms .numbers .inputs ≤ terms .numbers .nodes ⌝ }
-    requires { ⌜ headRuling (dueOf terms) (now sheet) ≡ Ruling.Sound ⌝ }
-    ensures { λ r. ⌜ r ≡ afterHeadRuling (dueOf terms) (now (sheet .entry)) ⌝ }
-{
-    let start = passed(sheet, 0);
-    let lines = judge_lines(terms, sheet, start);
-    match lines {
-        Reached::FaultyFor(f) => Ruling::Faulty(f),
-        Reached::Place(next) => judge_from_luts(terms, sheet, next),
-    }
 }
 
 // Pass one: the ruling on the shape of a sheet.
@@ -77,10 +37,12 @@ pub fn judge_shape(terms: Terms, sheet: &[u8]) -> Ruling
     requires { ⌜ terms .numbers .inputs ≤ terms .numbers .nodes ⌝ }
     ensures { λ r. ⌜ r ≡ reading (dueOf terms) (now (sheet .entry)) .ruling ⌝ }
 {
-    let head = head_ruling(terms, sheet);
-    match head {
-        Ruling::Faulty(f) => Ruling::Faulty(f),
-        Ruling::Sound => judge_from_lines(terms, sheet),
+    let run = judge_fields(terms, sheet, Run::Head);
+    match run {
+        Run::Ended(ruling) => ruling,
+        // The walk ends with a ruling, and not before it.
+        Run::Head => Ruling::Sound,
+        Run::Fields(_) => Ruling::Sound,
     }
 }
 
@@ -103,6 +65,5 @@ pub fn load_sheet(
 {
     let next = load_lines(terms, sheet, labels, cuts, places);
     load_luts(terms, sheet, next, luts, lut_cuts, tables);
-    let depth = small_at(sheet, 4, terms.form.width) as u16;
-    Label { depth }
+    label_at(sheet, DEPTH_AT, terms.form.width)
 }

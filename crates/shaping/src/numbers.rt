@@ -1,44 +1,48 @@
-// Numbers and ids of a sheet, of one byte or two.
+// The numbers of a sheet as what they are: labels, nodes, how many leaves a cut has; and the ids of a cut.
 use crate::Terms;
-use drawing::bytes::byte_at;
+use drawing::bytes::ids_below;
+use drawing::bytes::small_at;
+use sheet::limits::COUNT_SIZE;
+use storage::CutSize;
+use storage::Label;
+use storage::Node;
 ghost use mathlib.Core.Path.{_≡_};
 ghost use mathlib.Core.Bool.{not};
 ghost use Prim.Native.Nat.{_+_, _*_, _≤_};
 ghost use lib.ListN.{length};
-ghost use Rattle.drawing.specs.Bytes.{someFrom};
-ghost use Rattle.sheet.specs.Shape.{idsAt, rising, leavesRange, leavesAt, leavesEnd};
-ghost use Rattle.shaping.specs.Terms.{dueOf, Narrow};
-ghost use Rattle.shaping.specs.Numbers.{SmallAt};
+ghost use Rattle.drawing.specs.paper.Bytes.{idsAt};
+ghost use Rattle.drawing.specs.Bytes.{Narrow, SmallAt};
+ghost use Rattle.sheet.specs.paper.Limits.{countSize};
+ghost use Rattle.sheet.specs.paper.Shape.{rising, leavesRange, leavesAt, leavesEnd};
+ghost use Rattle.shaping.specs.Terms.{dueOf};
 
-// The number at a place.
-pub fn small_at(sheet: &[u8], at: usize, width: usize) -> usize
+pub fn label_at(sheet: &[u8], at: usize, width: usize) -> Label
     requires { ⌜ Narrow width ⌝ }
     requires { ⌜ at + width ≤ length (now sheet) ⌝ }
-    ensures { λ r. ⌜ SmallAt (now (sheet .entry)) at width r ⌝ }
+    ensures { λ r. ⌜ SmallAt (now (sheet .entry)) at width (r .depth) ⌝ }
 {
-    let high = byte_at(sheet, at);
-    if width == 1 {
-        return high;
+    Label {
+        depth: small_at(sheet, at, width) as u16,
     }
-    high * 256 + byte_at(sheet, at + 1)
 }
 
-// Are the `count` ids from `at` on all below `nodes`?
-pub fn ids_below(sheet: &[u8], at: usize, width: usize, count: usize, nodes: usize) -> bool
+pub fn node_at(sheet: &[u8], at: usize, width: usize) -> Node
     requires { ⌜ Narrow width ⌝ }
-    requires { ⌜ at + count * width ≤ length (now sheet) ⌝ }
-    ensures { λ r. ⌜ r ≡ not (someFrom nodes (idsAt (now (sheet .entry)) at width count)) ⌝ }
+    requires { ⌜ at + width ≤ length (now sheet) ⌝ }
+    ensures { λ r. ⌜ SmallAt (now (sheet .entry)) at width (r .id) ⌝ }
 {
-    let mut next = at;
-    let mut left = count;
-    while 0 < left {
-        if nodes <= small_at(sheet, next, width) {
-            return false;
-        }
-        next += width;
-        left -= 1;
+    Node {
+        id: small_at(sheet, at, width) as u16,
     }
-    true
+}
+
+pub fn size_at(sheet: &[u8], at: usize) -> CutSize
+    requires { ⌜ at + countSize ≤ length (now sheet) ⌝ }
+    ensures { λ r. ⌜ SmallAt (now (sheet .entry)) at countSize (r .leaves) ⌝ }
+{
+    CutSize {
+        leaves: small_at(sheet, at, COUNT_SIZE) as u8,
+    }
 }
 
 // Do the `count` ids from `at` on rise?
@@ -48,15 +52,15 @@ pub fn ids_rise(sheet: &[u8], at: usize, width: usize, count: usize) -> bool
     requires { ⌜ at + count * width ≤ length (now sheet) ⌝ }
     ensures { λ r. ⌜ r ≡ rising (idsAt (now (sheet .entry)) at width count) ⌝ }
 {
-    let mut before = small_at(sheet, at, width);
+    let mut before = node_at(sheet, at, width);
     let mut next = at + width;
     let mut left = count - 1;
     while 0 < left {
-        let id = small_at(sheet, next, width);
-        if id <= before {
+        let node = node_at(sheet, next, width);
+        if node.id <= before.id {
             return false;
         }
-        before = id;
+        before = node;
         next += width;
         left -= 1;
     }
@@ -70,15 +74,16 @@ pub fn leaves_in_range(terms: Terms, sheet: &[u8], at: usize) -> bool
     ensures { λ r. ⌜ r ≡ not (leavesRange (dueOf terms) (leavesAt (dueOf terms) (now (sheet .entry)) at)) ⌝ }
 {
     let width = terms.form.width;
-    let count = small_at(sheet, at, 1);
-    if count < 1 {
+    let size = size_at(sheet, at);
+    if size.leaves < 1 {
         return false;
     }
-    if (terms.numbers.k.leaves as usize) < count {
+    if terms.numbers.k.leaves < size.leaves {
         return false;
     }
-    if !ids_rise(sheet, at + 1, width, count) {
+    let count = size.leaves as usize;
+    if !ids_rise(sheet, at + COUNT_SIZE, width, count) {
         return false;
     }
-    ids_below(sheet, at + 1, width, count, terms.numbers.nodes)
+    ids_below(sheet, at + COUNT_SIZE, width, count, terms.numbers.nodes)
 }

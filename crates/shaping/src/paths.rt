@@ -1,14 +1,14 @@
 // The paths of a gate's line: each a length and its ids.
-use crate::numbers::ids_below;
-use crate::numbers::small_at;
+use drawing::bytes::ids_below;
+use drawing::bytes::small_at;
 ghost use mathlib.Core.Path.{_≡_};
 ghost use mathlib.Core.Bool.{not, _||_};
 ghost use Prim.Native.Nat.{_≤_};
 ghost use lib.ListN.{length};
-ghost use Rattle.theory.specs.Evidence.{joined};
-ghost use Rattle.drawing.specs.Bytes.{someFrom};
-ghost use Rattle.sheet.specs.Shape.{pathsAt, pathsUse, someEmpty};
-ghost use Rattle.shaping.specs.Terms.{Narrow};
+ghost use Rattle.theory.specs.paper.Evidence.{joined};
+ghost use Rattle.drawing.specs.paper.Bytes.{someFrom};
+ghost use Rattle.drawing.specs.Bytes.{Narrow};
+ghost use Rattle.sheet.specs.paper.Shape.{pathsAt, pathsUse, someEmpty};
 ghost use Rattle.shaping.specs.Numbers.{pathsEnd};
 
 // Do `count` paths from `at` on end exactly at `end`?

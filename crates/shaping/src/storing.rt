@@ -1,47 +1,54 @@
 // One node's entries in the arrays that a sheet is loaded into.
 use crate::Terms;
-use crate::numbers::small_at;
+use crate::numbers::label_at;
+use crate::numbers::node_at;
+use crate::numbers::size_at;
 use drawing::bytes::number_at;
+use drawing::limits::FRAME;
+use drawing::limits::ID_SIZE;
+use drawing::limits::ROWS_SIZE;
+use sheet::limits::COUNT_SIZE;
+use storage::CutSize;
 use storage::Node;
 use storage::lists::PLACES;
 ghost use mathlib.Core.Path.{_≡_};
 ghost use Prim.Native.Nat.{_+_, _*_, _-_, _≤_, _<_};
 ghost use lib.ListN.{length, getD};
-ghost use Rattle.sheet.specs.Sheet.{noLine};
-ghost use Rattle.sheet.specs.Shape.{idsAt, lineAt, lutAt};
-ghost use Rattle.shaping.specs.Terms.{dueOf, Narrow};
+ghost use Rattle.sheet.specs.paper.Sheet.{noLine};
+ghost use Rattle.drawing.specs.paper.Bytes.{idsAt};
+ghost use Rattle.drawing.specs.Bytes.{Narrow};
+ghost use Rattle.sheet.specs.paper.Shape.{lineAt, lutAt};
+ghost use Rattle.shaping.specs.Terms.{dueOf};
 ghost use Rattle.shaping.specs.Loading.{Filled, counted, lineArrays, LineRoom, LinePut, lutArrays, LutRoom, LutPut, noneListed, lutListed};
 ghost use Rattle.shaping.specs.Turns.{LineReady, LutReady};
 
-// What stands at the i-th place of a list of `count` ids that are read from `at` on: how many, then the ids, and 0 behind them.
-fn list_place(sheet: &[u8], at: usize, width: usize, count: usize, i: usize) -> u16
+// What stands at the i-th place of a list of `size` ids that are read from `at` on: how many, then the ids, and 0 behind them.
+fn list_place(sheet: &[u8], at: usize, width: usize, size: CutSize, i: usize) -> u16
     requires { ⌜ Narrow width ⌝ }
-    requires { ⌜ count < 65536 ⌝ }
-    requires { ⌜ at + count * width ≤ length (now sheet) ⌝ }
-    ensures { λ r. ⌜ r ≡ getD (counted (idsAt (now (sheet .entry)) at width count)) i 0 ⌝ }
+    requires { ⌜ at + size .leaves * width ≤ length (now sheet) ⌝ }
+    ensures { λ r. ⌜ r ≡ getD (counted (idsAt (now (sheet .entry)) at width (size .leaves))) i 0 ⌝ }
 {
     if i == 0 {
-        return count as u16;
+        return size.leaves as u16;
     }
     let before = i - 1;
-    if count <= before {
+    if size.leaves as usize <= before {
         return 0;
     }
-    small_at(sheet, at + before * width, width) as u16
+    node_at(sheet, at + before * width, width).id
 }
 
-// Fills the seven places of a node by the `count` ids from `at` on.
-fn put_list(sheet: &[u8], at: usize, width: usize, count: usize, cuts: &mut [u16], node: Node)
+// Fills the seven places of a node by the `size` ids from `at` on.
+fn put_list(sheet: &[u8], at: usize, width: usize, size: CutSize, cuts: &mut [u16], node: Node)
     requires { ⌜ Narrow width ⌝ }
-    requires { ⌜ count < 65536 ⌝ }
-    requires { ⌜ at + count * width ≤ length (now sheet) ⌝ }
+    requires { ⌜ at + size .leaves * width ≤ length (now sheet) ⌝ }
     requires { ⌜ 7 * node .id + 7 ≤ length (now cuts) ⌝ }
-    ensures { λ _. ⌜ Filled (now (cuts .entry)) (7 * node .id) (7 * node .id + 7) (λ i. getD (counted (idsAt (now (sheet .entry)) at width count)) (i - 7 * node .id) 0) (now (cuts .exit)) ⌝ }
+    ensures { λ _. ⌜ Filled (now (cuts .entry)) (7 * node .id) (7 * node .id + 7) (λ i. getD (counted (idsAt (now (sheet .entry)) at width (size .leaves))) (i - 7 * node .id) 0) (now (cuts .exit)) ⌝ }
 {
     let base = PLACES * (node.id as usize);
     let mut i = 0;
     while i < PLACES {
-        cuts[base + i] = list_place(sheet, at, width, count, i);
+        cuts[base + i] = list_place(sheet, at, width, size, i);
         i += 1;
     }
 }
@@ -60,7 +67,7 @@ pub fn put_no_line(
     let v = node.id as usize;
     labels[v] = 0;
     places[v] = 0;
-    put_list(sheet, 0, 1, 0, cuts, node);
+    put_list(sheet, 0, ID_SIZE, CutSize { leaves: 0 }, cuts, node);
 }
 
 // A gate's entries, of its line at `at`.
@@ -79,11 +86,11 @@ pub fn put_line(
 {
     let v = node.id as usize;
     let width = terms.form.width;
-    let cut = at + 3 + width;
-    let count = small_at(sheet, cut, 1);
-    labels[v] = small_at(sheet, at + 3, width) as u16;
+    let cut = at + FRAME + width;
+    let size = size_at(sheet, cut);
+    labels[v] = label_at(sheet, at + FRAME, width).depth;
     places[v] = at as u32;
-    put_list(sheet, cut + 1, width, count, cuts, node);
+    put_list(sheet, cut + COUNT_SIZE, width, size, cuts, node);
 }
 
 // The entries of a node that is no root.
@@ -94,7 +101,7 @@ pub fn put_no_lut(sheet: &[u8], node: Node, luts: &mut [u8], cuts: &mut [u16], t
     let v = node.id as usize;
     luts[v] = 0;
     tables[v] = 0;
-    put_list(sheet, 0, 1, 0, cuts, node);
+    put_list(sheet, 0, ID_SIZE, CutSize { leaves: 0 }, cuts, node);
 }
 
 // A root's entries, of its LUT at `at`.
@@ -113,9 +120,13 @@ pub fn put_lut(
 {
     let v = node.id as usize;
     let width = terms.form.width;
-    let cut = at + 3 + width;
-    let count = small_at(sheet, cut, 1);
+    let cut = at + FRAME + width;
+    let size = size_at(sheet, cut);
     luts[v] = 1;
-    tables[v] = number_at(sheet, cut + 1 + count * width, 8);
-    put_list(sheet, cut + 1, width, count, cuts, node);
+    tables[v] = number_at(
+        sheet,
+        cut + COUNT_SIZE + size.leaves as usize * width,
+        ROWS_SIZE,
+    );
+    put_list(sheet, cut + COUNT_SIZE, width, size, cuts, node);
 }

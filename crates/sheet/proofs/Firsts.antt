@@ -7,7 +7,7 @@ use native.Mathlib.Omega.{arith}
 use mathlib.Core.Path.{_≡_, refl, sym, ap, _∙_}
 use mathlib.Core.Logic.{_⊎_, inl, inr, ⊎-elim}
 use mathlib.Core.List.{List, [], _∷_, _++_, flatMap, List·Memᴰ, List·Memᴰ·head, List·Memᴰ·tail, List·Memᴰ·not-nil, List·Memᴰ·cases-cons}
-use Rattle.sheet.specs.Rules.{Rule, Found, FirstBroken, from}
+use Rattle.sheet.specs.paper.Rules.{Rule, Found, FirstBroken, from}
 
 module _ {Kept : Rule → Type 0} where
   pub first-is-one : {rs : List Rule} {x y : Found} → FirstBroken Kept rs x → FirstBroken Kept rs y → x ≡ y

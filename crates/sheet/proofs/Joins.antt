@@ -7,8 +7,8 @@ use mathlib.Core.List.{List, _∷_, _++_, flatMap, append-assoc}
 use lib.ListN.{length, drop}
 use lib.Seq.{sets-eq}
 use Rattle.sheet.specs.declared.Form.{Form}
-use Rattle.sheet.specs.Sheet.{Sheet, lineOf}
-use Rattle.sheet.specs.Encoding.{pathBytes, lineFront, headField, lineField, lutField, encode}
+use Rattle.sheet.specs.paper.Sheet.{Sheet, lineOf}
+use Rattle.sheet.specs.paper.Encoding.{pathBytes, lineFront, headField, lineField, lutField, encode}
 use Rattle.sheet.specs.Writing.{Room, Written, Closed, lineBegun}
 use Rattle.sheet.proofs.Numbers.{flat-append}
 use Rattle.sheet.proofs.Writes.{room-first, room-then, closing-room, closed, field-room}

@@ -5,10 +5,10 @@ use native.Mathlib.Omega.{arith}
 use mathlib.Core.Path.{_≡_, ap, sym, _∙_}
 use mathlib.Core.List.{List, [], _∷_, _++_, flatMap}
 use lib.ListN.{length, getD, length-append}
-use Rattle.theory.specs.Evidence.{joined}
+use Rattle.theory.specs.paper.Evidence.{joined}
 use Rattle.sheet.specs.declared.Form.{Form}
-use Rattle.sheet.specs.Sheet.{Line, Lut}
-use Rattle.sheet.specs.Encoding.{digits, byte, idBytes, field, leavesBytes, pathBytes, headValue, headField, lineFront, lineValue, lineField, lutValue, lutField}
+use Rattle.sheet.specs.paper.Sheet.{Line, Lut}
+use Rattle.sheet.specs.paper.Encoding.{digits, byte, idBytes, field, leavesBytes, pathBytes, headValue, headField, lineFront, lineValue, lineField, lutValue, lutField}
 use Rattle.sheet.proofs.Numbers.{length-digits, length-ids}
 
 pub length-field : (tag : ℕ) (value : List ℕ) → length (field tag value) ≡ 3 + length value

@@ -8,8 +8,8 @@ use mathlib.Core.Bool.{Bool, true, false, cond, _||_, false≢true}
 use mathlib.Core.List.{List, [], _∷_, List·Memᴰ, List·Memᴰ·head, List·Memᴰ·tail, List·Memᴰ·not-nil, List·Memᴰ·cases-cons}
 use borrow.Author.Tests.{eq-eqb, ne-eqb}
 use lib.Dec.{eqb}
-use Rattle.sheet.specs.Sheet.{Lut, Roots}
-use Rattle.sheet.specs.Rules.{isListed, leavesListed, tableListed}
+use Rattle.sheet.specs.paper.Sheet.{Lut, Roots}
+use Rattle.sheet.specs.paper.Rules.{isListed, leavesListed, tableListed}
 
 pub record ListedLut (luts : List Lut) (v : ℕ) : Type 0 where
   pub lut : Lut

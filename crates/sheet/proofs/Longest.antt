@@ -8,16 +8,16 @@ use mathlib.Core.Path.{_≡_, refl, ap}
 use mathlib.Core.Logic.{_⊎_, inl, inr, ⊎-elim}
 use mathlib.Core.List.{List, [], _∷_, _++_, flatMap, List·Memᴰ, List·Memᴰ·head, List·Memᴰ·tail, List·Memᴰ·cases-cons, List·Memᴰ·append-cases, List·Memᴰ·not-nil, Memᴰ·cast}
 use lib.ListN.{length, getD, length-append}
-use Rattle.theory.specs.Net.{Net, Gate, Input}
-use Rattle.theory.specs.Lists.{NoRepeats}
-use Rattle.theory.specs.Walk.{Walked, Cut}
-use Rattle.theory.specs.Evidence.{peak, InD, joined, Evidence}
+use Rattle.theory.specs.paper.Net.{Net, Gate, Input}
+use Rattle.theory.specs.paper.Lists.{NoRepeats}
+use Rattle.theory.specs.paper.Walk.{Walked, Cut}
+use Rattle.theory.specs.paper.Evidence.{peak, InD, joined, Evidence}
 use Rattle.theory.proofs.Members.{no-longer, greatest-stands}
 use Rattle.theory.proofs.Walks.{met-node, fanin-node, input-or-gate}
 use Rattle.sheet.specs.declared.Form.{Form}
-use Rattle.sheet.specs.Sheet.{Line, Sheet, noLine, noLut}
-use Rattle.sheet.specs.Encoding.{narrow, headField, lineField, lutField, encode}
-use Rattle.sheet.specs.Longest.{Backed, Drawing, Kept, lineMost, lutMost, sheetMost}
+use Rattle.sheet.specs.paper.Sheet.{Line, Sheet, noLine}
+use Rattle.sheet.specs.paper.Encoding.{narrow, headField, lineField, lutField, encode}
+use Rattle.sheet.specs.Longest.{Backed, Drawing, Kept, lineMost, lutMost, sheetMost, noLut}
 use Rattle.sheet.proofs.Lengths.{length-head, length-line, length-lut, flat-most}
 
 -- all nodes

@@ -7,8 +7,8 @@ use native.Mathlib.Numerals.{add-one}
 use native.Mathlib.Omega.{arith}
 use lib.Arith.{mod-mul}
 use lib.ListN.{length, length-append}
-use Rattle.drawing.specs.Bytes.{highFirst}
-use Rattle.sheet.specs.Encoding.{digits, idBytes}
+use Rattle.drawing.specs.paper.Bytes.{highFirst}
+use Rattle.sheet.specs.paper.Encoding.{digits, idBytes}
 
 pub length-digits : (width number : ℕ) → length (digits width number) ≡ width
 unfolding digits

@@ -6,7 +6,7 @@ use native.Mathlib.Nat.{add-mul, mul-le-mul-right, one-mul}
 use native.Mathlib.Omega.{arith}
 use lib.ListN.{length, getD, length-take, length-drop}
 use Rattle.storage.proofs.Entries.{take-more}
-use Rattle.sheet.specs.Encoding.{digits, idBytes}
+use Rattle.sheet.specs.paper.Encoding.{digits, idBytes}
 use Rattle.sheet.specs.Writing.{Room, Written, part}
 use Rattle.sheet.proofs.Numbers.{length-digits, length-ids, flat-more}
 use Rattle.sheet.proofs.Writes.{then, same-size, written-as, room-first, room-then}

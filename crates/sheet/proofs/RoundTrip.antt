@@ -7,16 +7,17 @@ use mathlib.Core.List.{List, [], _∷_, _++_, flatMap, append-nil}
 use borrow.Author.Tests.{le-ltb, eq-eqb}
 use lib.ListN.{length, length-append}
 use lib.Dec.{ltb, eqb}
-use Rattle.drawing.specs.Bytes.{numberAt, lengthAt, valueAt}
+use Rattle.drawing.specs.paper.Bytes.{numberAt, lengthAt, valueAt}
 use Rattle.sheet.specs.declared.Fault.the-variants.{Extra}
 use Rattle.sheet.specs.declared.Ruling.{Ruling}
 use Rattle.sheet.specs.declared.Ruling.the-variants.{Sound, Faulty}
-use Rattle.sheet.specs.Sheet.{Line, Lut, Sheet, lineOf, lutOf}
-use Rattle.sheet.specs.Encoding.{digits, byte, leavesBytes, pathBytes, headField, lineValue, lineField, lutValue, lutField, encode}
-use Rattle.sheet.specs.Shape.{Due, Below, endAt, pathsAt, pathsUse, headRange, lineRange, lutRange, depthAt}
-use Rattle.sheet.specs.Shape.{countAt, headRuling, leavesAt, leavesEnd, lineCut, linePaths, lineAt}
-use Rattle.sheet.specs.Shape.{lineLengthWrong, lineRuling, lutCut, lutAt, lutLengthWrong, lutRuling, Fields}
-use Rattle.sheet.specs.Shape.{andField, linesFrom, lutsFrom, afterHead, afterLines, afterLuts, reading}
+use Rattle.sheet.specs.paper.Sheet.{Line, Lut, Sheet, lineOf, lutOf}
+use Rattle.sheet.specs.paper.Encoding.{digits, byte, leavesBytes, pathBytes, headField, lineValue, lineField, lutValue, lutField, encode}
+use Rattle.sheet.specs.paper.Shape.{Due, endAt, pathsAt, pathsUse, headRange, lineRange, lutRange, depthAt}
+use Rattle.sheet.specs.Shape.{Below}
+use Rattle.sheet.specs.paper.Shape.{countAt, headRuling, leavesAt, leavesEnd, lineCut, linePaths, lineAt}
+use Rattle.sheet.specs.paper.Shape.{lineLengthWrong, lineRuling, lutCut, lutAt, lutLengthWrong, lutRuling, Fields}
+use Rattle.sheet.specs.paper.Shape.{andField, linesFrom, lutsFrom, afterHead, afterLines, afterLuts, reading}
 use Rattle.sheet.specs.Shape.{LineShaped, LutShaped, LinesShaped, LutsShaped, Shaped}
 use Rattle.sheet.proofs.Numbers.{length-digits}
 use Rattle.sheet.proofs.Lengths.{length-three, length-leaves, length-lut-value}

@@ -9,17 +9,18 @@ use mathlib.Core.List.{List, [], _∷_, List·Memᴰ, List·Memᴰ·head, List·
 use borrow.Author.Tests.{lt-ltb, le-ltb, lt-leb, eq-eqb, ne-eqb}
 use lib.ListN.{length, getD, length-append}
 use lib.Dec.{eqb}
-use Rattle.theory.specs.Net.{Net, Gate, Input}
-use Rattle.theory.specs.Lists.{Rising}
-use Rattle.theory.specs.Walk.{Cut}
-use Rattle.theory.specs.Evidence.{TruePath, joined}
+use Rattle.theory.specs.paper.Net.{Net, Gate, Input}
+use Rattle.theory.specs.paper.Lists.{Rising}
+use Rattle.theory.specs.paper.Walk.{Cut}
+use Rattle.theory.specs.paper.Evidence.{TruePath, joined}
 use Rattle.theory.proofs.Walks.{met-node}
-use Rattle.drawing.specs.Bytes.{someFrom}
+use Rattle.drawing.specs.paper.Bytes.{someFrom}
 use Rattle.sheet.specs.declared.Form.{Form}
-use Rattle.sheet.specs.Sheet.{Line, Lut, Sheet, noLine, noLut}
-use Rattle.sheet.specs.Encoding.{narrow, lineValue}
-use Rattle.sheet.specs.Longest.{Backed, Drawing, Kept, lineMost}
-use Rattle.sheet.specs.Shape.{Due, Below, rising, someEmpty, leavesRange, LineShaped, LutShaped, LinesShaped, LutsShaped, Shaped, dueFrom}
+use Rattle.sheet.specs.paper.Sheet.{Line, Lut, Sheet, noLine}
+use Rattle.sheet.specs.paper.Encoding.{narrow, lineValue}
+use Rattle.sheet.specs.Longest.{Backed, Drawing, Kept, lineMost, noLut}
+use Rattle.sheet.specs.paper.Shape.{Due, rising, someEmpty, leavesRange}
+use Rattle.sheet.specs.Shape.{Below, LineShaped, LutShaped, LinesShaped, LutsShaped, Shaped, dueFrom}
 use Rattle.sheet.proofs.Lengths.{length-field}
 use Rattle.sheet.proofs.Longest.{ids-few, line-short, on-a-path}
 

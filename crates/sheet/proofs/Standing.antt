@@ -8,11 +8,12 @@ use mathlib.Core.List.{List, [], _∷_, _++_, flatMap, append-assoc, List·Mem�
 use borrow.Author.Tests.{le-ltb, le-leb, eq-eqb}
 use lib.ListN.{length, getD, take, drop, length-append, length-drop}
 use lib.Seq.{drop-drop, drop-append-seam, take-at, getD-drop}
-use Rattle.drawing.specs.Rules.{first}
-use Rattle.drawing.specs.Bytes.{highFirst, numberAt, tagAt, lengthAt, valueAt}
+use Rattle.drawing.specs.paper.Rules.{first}
+use Rattle.drawing.specs.paper.Bytes.{highFirst, numberAt, tagAt, lengthAt, valueAt, idsAt}
 use Rattle.sheet.specs.declared.Ruling.the-variants.{Sound}
-use Rattle.sheet.specs.Encoding.{digits, idBytes, pathBytes, field}
-use Rattle.sheet.specs.Shape.{Below, fieldRules, endAt, idsAt, pathEnd, pathsAt, pathsUse}
+use Rattle.sheet.specs.paper.Encoding.{digits, idBytes, pathBytes, field}
+use Rattle.sheet.specs.paper.Shape.{fieldRules, endAt, pathEnd, pathsAt, pathsUse}
+use Rattle.sheet.specs.Shape.{Below}
 use Rattle.sheet.proofs.Numbers.{length-digits, number-back}
 use Rattle.sheet.proofs.Lengths.{length-field, length-path}
 
@@ -50,7 +51,7 @@ module _ {s : List ℕ} {at : ℕ} where
       ap (λ (i : ℕ). getD s i 0) (sym (add-zero at)) ∙ sym (getD-drop at s 0 0) ∙ ap (λ (l : List ℕ). getD l 0 0) (st .there)
 
 pub ids-stand : (s : List ℕ) (at width : ℕ) (vs : List ℕ) → Below (256 ^ width) vs → Stands s at (idBytes width vs) → idsAt s at width (length vs) ≡ vs
-unfolding idsAt flatMap
+unfolding flatMap
 ids-stand s at width [] below st = refl
 ids-stand s at width (v ∷ vs) below st =
     let here = number-stands width v (below v (List·Memᴰ·head refl)) (stands-first (digits width v) (idBytes width vs) st) in

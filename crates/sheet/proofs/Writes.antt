@@ -8,7 +8,7 @@ use native.Mathlib.Omega.{arith}
 use lib.ListN.{length, set, length-append, length-set}
 use lib.Seq.{sets, length-sets, set-comm, set-set}
 use Rattle.storage.proofs.Stores.{sets-append, set-sets}
-use Rattle.sheet.specs.Encoding.{digits, field}
+use Rattle.sheet.specs.paper.Encoding.{digits, field}
 use Rattle.sheet.specs.Writing.{Room, Written, Closed, opened}
 use Rattle.sheet.proofs.Numbers.{length-digits, rest-more, flat-more}
 

@@ -3,13 +3,13 @@ use Prim.Native.Nat.{ℕ, _*_, _≤_, _<_}
 use mathlib.Core.Path.{_≡_}
 use mathlib.Core.List.{List}
 use lib.ListN.{length, getD}
-use Rattle.theory.specs.Values.{bit}
+use Rattle.theory.specs.paper.Values.{bit}
 use Rattle.storage.specs.Lists.{sizeAt, listAt}
-use Rattle.drawing.specs.Limits.{mostK}
+use Rattle.drawing.specs.paper.Limits.{mostK}
 use Rattle.sheet.specs.declared.Ruling.the-variants.{Sound}
-use Rattle.sheet.specs.Sheet.{Line, Lut}
-use Rattle.sheet.specs.Shape.{Due, lineAt, lineRuling}
-use Rattle.sheet.specs.Rules.{lineOfNode, isListed, leavesListed, tableListed}
+use Rattle.sheet.specs.paper.Sheet.{Line, Lut}
+use Rattle.sheet.specs.paper.Shape.{Due, lineAt, lineRuling}
+use Rattle.sheet.specs.paper.Rules.{lineOfNode, isListed, leavesListed, tableListed}
 
 -- Every node has its line's label and leaves, an input 0 and none.
 pub record HoldsLines (inputs nodes : ℕ) (lines : List Line) (labels cuts : List ℕ) : Type 0 where

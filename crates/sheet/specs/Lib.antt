@@ -1,8 +1,5 @@
-pub mod Limits
-pub mod Sheet
-pub mod Encoding
+pub mod paper
 pub mod Writing
 pub mod Longest
 pub mod Shape
-pub mod Rules
 pub mod Arrays

@@ -3,11 +3,16 @@ use Prim.Native.Nat.{ℕ, _+_, _*_, _-_, _≤_, _<_}
 use mathlib.Core.Path.{_≡_}
 use mathlib.Core.List.{List, []}
 use lib.ListN.{length, getD}
-use Rattle.theory.specs.Net.{Net, Input}
-use Rattle.theory.specs.Walk.{Cut, Loop}
-use Rattle.theory.specs.Sound.{Bounded}
-use Rattle.theory.specs.Evidence.{peak, Evidence}
-use Rattle.sheet.specs.Sheet.{Sheet, noLine, noLut}
+use Rattle.theory.specs.paper.Net.{Net, Input}
+use Rattle.theory.specs.paper.Walk.{Cut, Loop}
+use Rattle.theory.specs.paper.Sound.{Bounded}
+use Rattle.theory.specs.paper.Evidence.{peak, Evidence}
+use Rattle.drawing.specs.paper.Limits.{frameSize, rowsSize}
+use Rattle.sheet.specs.paper.Limits.{versionSize, countSize}
+use Rattle.sheet.specs.paper.Sheet.{Sheet, noLine, Lut, lutOf}
+
+abbrev pub noLut : Lut
+noLut = lutOf 0 [] 0
 
 -- "Evidence that a label is p + 1, for p at least 1", or no paths
 pub data Backed (net : Net) (k : ℕ) (lab : ℕ → ℕ) (t : ℕ) : List (List ℕ) → Type 0 where
@@ -33,10 +38,10 @@ pub record Kept (net : Net) (k : ℕ) (lab : ℕ → ℕ) (sheet : Sheet) : Type
 
 -- The most bytes of a line and of a LUT at n nodes, and of a sheet with g gates; a number that the width counts for is `width` bytes.
 abbrev pub lineMost : (width k n : ℕ) → ℕ
-lineMost width k n = 5 + width + k * width + (k + n - 1) * width
+lineMost width k n = frameSize + countSize + countSize + width + k * width + (k + n - 1) * width
 
 abbrev pub lutMost : (width k : ℕ) → ℕ
-lutMost width k = 12 + width + k * width
+lutMost width k = frameSize + countSize + rowsSize + width + k * width
 
 abbrev pub sheetMost : (width k n g : ℕ) → ℕ
-sheetMost width k n g = 4 + width + width + g * lineMost width k n + g * lutMost width k
+sheetMost width k n g = frameSize + versionSize + width + width + g * lineMost width k n + g * lutMost width k

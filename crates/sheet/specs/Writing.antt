@@ -4,8 +4,10 @@ use mathlib.Core.Path.{_≡_}
 use mathlib.Core.List.{List, [], _∷_, _++_}
 use lib.ListN.{length, take, drop}
 use lib.Seq.{sets}
+use Rattle.drawing.specs.paper.Limits.{lengthSize}
+use Rattle.drawing.specs.paper.Bytes.{valueAt}
 use Rattle.sheet.specs.declared.Form.{Form}
-use Rattle.sheet.specs.Encoding.{digits, lineFront}
+use Rattle.sheet.specs.paper.Encoding.{digits, lineFront}
 
 -- there is room for the bytes from `at` on
 abbrev pub Room : (buffer : List ℕ) (at : ℕ) (bytes : List ℕ) → Type 0
@@ -16,7 +18,7 @@ pub record Written (before : List ℕ) (at : ℕ) (bytes after : List ℕ) (next
   pub stored : after ≡ sets before at bytes
   pub reached : next ≡ at + length bytes
 
--- the entries of a lent slice that a function writes
+-- `count` entries of a slice, from place `from` on
 abbrev pub part : List ℕ → (from count : ℕ) → List ℕ
 part s from count = take count (drop from s)
 
@@ -30,5 +32,5 @@ lineBegun form label leaves q = opened (form .line) ++ lineFront form label leav
 
 -- The length of the field at `at`, whose value ends at `next`, goes into its two bytes.
 pub record Closed (before : List ℕ) (at next : ℕ) (after : List ℕ) (r : ℕ) : Type 0 where
-  pub stored : after ≡ sets before (at + 1) (digits 2 (next - (at + 3)))
+  pub stored : after ≡ sets before (at + 1) (digits lengthSize (next - valueAt at))
   pub reached : r ≡ next

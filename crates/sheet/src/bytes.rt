@@ -1,8 +1,12 @@
 // Bytes and numbers at a place of a buffer. Each function answers the next place.
+use crate::limits::COUNT_SIZE;
+use drawing::limits::FRAME;
+use drawing::limits::LENGTH_SIZE;
 use storage::CutSize;
 ghost use Prim.Native.Nat.{_+_, _≤_};
 ghost use lib.ListN.{length};
-ghost use Rattle.sheet.specs.Encoding.{digits, idBytes, leavesBytes};
+ghost use Rattle.drawing.specs.paper.Bytes.{valueAt};
+ghost use Rattle.sheet.specs.paper.Encoding.{digits, idBytes, leavesBytes};
 ghost use Rattle.sheet.specs.Writing.{Room, Written, Closed, part, opened};
 
 // A number in `width` bytes, high byte first. The low byte is stored first, at the last place.
@@ -56,7 +60,7 @@ pub fn put_leaves(
     requires { ⌜ Room (now sheet) at (leavesBytes width (part (now leaves) from (size .leaves))) ⌝ }
     ensures { λ r. ⌜ Written (now (sheet .entry)) at (leavesBytes width (part (now (leaves .entry)) from (size .leaves))) (now (sheet .exit)) r ⌝ }
 {
-    let ids_at = put_number(sheet, at, size.leaves as u64, 1);
+    let ids_at = put_number(sheet, at, size.leaves as u64, COUNT_SIZE);
     put_ids(sheet, ids_at, leaves, from, size.leaves as usize, width)
 }
 
@@ -68,15 +72,15 @@ pub fn open_field(sheet: &mut [u8], at: usize, tag: u8) -> usize
     sheet[at] = tag;
     sheet[at + 1] = 0;
     sheet[at + 2] = 0;
-    at + 3
+    at + FRAME
 }
 
 // Stores the length of the field at `at`, whose value ends at `next`.
 pub fn close_field(sheet: &mut [u8], at: usize, next: usize) -> usize
-    requires { ⌜ at + 3 ≤ next ⌝ }
+    requires { ⌜ valueAt at ≤ next ⌝ }
     requires { ⌜ next ≤ length (now sheet) ⌝ }
     ensures { λ r. ⌜ Closed (now (sheet .entry)) at next (now (sheet .exit)) r ⌝ }
 {
-    put_number(sheet, at + 1, (next - (at + 3)) as u64, 2);
+    put_number(sheet, at + 1, (next - (at + FRAME)) as u64, LENGTH_SIZE);
     next
 }

@@ -3,17 +3,23 @@ mod bytes;
 pub mod faults;
 pub mod limits;
 
+use crate::limits::COUNT_SIZE;
 use crate::limits::HEAD;
 use crate::limits::LINE;
 use crate::limits::LUT;
+use crate::limits::VERSION_SIZE;
+use drawing::limits::ID_SIZE;
+use drawing::limits::ROWS_SIZE;
+use drawing::limits::VERSION;
 use storage::CutSize;
 use storage::Label;
 use storage::Node;
 ghost use mathlib.Core.Path.{_≡_};
 ghost use Prim.Native.Nat.{_+_, _≤_};
 ghost use lib.ListN.{length};
-ghost use Rattle.sheet.specs.Sheet.{lutOf};
-ghost use Rattle.sheet.specs.Encoding.{narrow, headField, pathBytes, lutField};
+ghost use Rattle.drawing.specs.paper.Bytes.{valueAt};
+ghost use Rattle.sheet.specs.paper.Sheet.{lutOf};
+ghost use Rattle.sheet.specs.paper.Encoding.{narrow, headField, pathBytes, lutField};
 ghost use Rattle.sheet.specs.Writing.{Room, Written, Closed, part, lineBegun};
 
 // The tags of a sheet's fields, and in how many bytes it writes an id; depths, labels, LUT counts and path lengths are as wide.
@@ -39,12 +45,12 @@ pub enum Ruling {
     Faulty(Fault),
 }
 
-// The form of the paper's sheets.
+// The paper's form: ids of one byte.
 pub fn narrow_form() -> Form
     ensures { λ r. ⌜ r ≡ narrow ⌝ }
 {
     Form {
-        width: 1,
+        width: ID_SIZE,
         head: HEAD,
         line: LINE,
         lut: LUT,
@@ -60,7 +66,7 @@ pub fn put_head(form: Form, sheet: &mut [u8], depth: Label, luts: usize) -> usiz
     let deep = depth.depth as u64;
     let number = luts as u64;
     let version_at = bytes::open_field(sheet, 0, form.head);
-    let depth_at = bytes::put_number(sheet, version_at, 1, 1);
+    let depth_at = bytes::put_number(sheet, version_at, VERSION as u64, VERSION_SIZE);
     let luts_at = bytes::put_number(sheet, depth_at, deep, width);
     let next = bytes::put_number(sheet, luts_at, number, width);
     bytes::close_field(sheet, 0, next)
@@ -85,7 +91,7 @@ pub fn begin_line(
     let label_at = bytes::open_field(sheet, at, form.line);
     let leaves_at = bytes::put_number(sheet, label_at, label.depth as u64, width);
     let paths_at = bytes::put_leaves(sheet, leaves_at, leaves, from, size, width);
-    bytes::put_number(sheet, paths_at, paths as u64, 1)
+    bytes::put_number(sheet, paths_at, paths as u64, COUNT_SIZE)
 }
 
 // One path of a line: the first `count` entries of the slice.
@@ -101,7 +107,7 @@ pub fn put_path(form: Form, sheet: &mut [u8], at: usize, path: &[u16], count: us
 
 // Stores the length of the line begun at `at`, whose last path ends at `next`.
 pub fn end_line(sheet: &mut [u8], at: usize, next: usize) -> usize
-    requires { ⌜ at + 3 ≤ next ⌝ }
+    requires { ⌜ valueAt at ≤ next ⌝ }
     requires { ⌜ next ≤ length (now sheet) ⌝ }
     ensures { λ r. ⌜ Closed (now (sheet .entry)) at next (now (sheet .exit)) r ⌝ }
 {
@@ -127,6 +133,6 @@ pub fn put_lut(
     let root_at = bytes::open_field(sheet, at, form.lut);
     let leaves_at = bytes::put_number(sheet, root_at, root.id as u64, width);
     let table_at = bytes::put_leaves(sheet, leaves_at, leaves, from, size, width);
-    let next = bytes::put_number(sheet, table_at, table, 8);
+    let next = bytes::put_number(sheet, table_at, table, ROWS_SIZE);
     bytes::close_field(sheet, at, next)
 }

@@ -5,7 +5,7 @@ use mathlib.Core.Path.{_≡_, ap, sym, subst}
 use mathlib.Core.List.{List, [], List·Memᴰ}
 use lib.ListN.{length}
 use borrow.Author.Tests.{lt-ltb, le-ltb}
-use Rattle.theory.specs.Net.{Gate}
+use Rattle.theory.specs.paper.Net.{Gate}
 use Rattle.theory.proofs.Walks.{fanin-node}
 use Rattle.storage.specs.Lists.{listAt}
 use Rattle.storage.specs.Drawings.{netIn, Drawn, Fed}

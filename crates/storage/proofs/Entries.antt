@@ -12,7 +12,8 @@ use mathlib.Core.List.{List·Memᴰ·append-cases, List·Memᴰ·eq-of-singleton
 use mathlib.Core.List.{Memᴰ·append-right}
 use lib.ListN.{length, getD, take, drop, length-take, length-drop}
 use lib.Seq.{getD-take, getD-drop, take-suc}
-use Rattle.theory.specs.Lists.{NoRepeats, isMember}
+use Rattle.theory.specs.paper.Lists.{NoRepeats}
+use Rattle.theory.specs.Members.{isMember}
 use Rattle.theory.proofs.Tests.{decides-member}
 use Rattle.storage.specs.Lists.{Place}
 

@@ -9,7 +9,7 @@ use mathlib.Core.List.{List}
 use lib.Dec.{eqb}
 use lib.ListN.{getD}
 use borrow.Author.Tests.{ne-eqb}
-use Rattle.theory.specs.Values.{bit}
+use Rattle.theory.specs.paper.Values.{bit}
 use Rattle.storage.specs.Marks.{Tells}
 use Rattle.storage.specs.Roles.{walkedBit, metBit, deepBit, areaBit, endBit, walkedIn, metIn, deepIn, areaIn, endsIn}
 use Rattle.storage.proofs.InMarks.{tells-yes, tells-no}

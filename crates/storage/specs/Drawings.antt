@@ -5,9 +5,9 @@ use mathlib.Core.Bool.{cond}
 use mathlib.Core.List.{List, [], List·Memᴰ}
 use lib.Dec.{ltb}
 use lib.ListN.{length, getD, take}
-use Rattle.theory.specs.Net.{Net, Gate}
-use Rattle.theory.specs.Lists.{NoRepeats}
-use Rattle.theory.specs.Sound.{Bounded}
+use Rattle.theory.specs.paper.Net.{Net, Gate}
+use Rattle.theory.specs.paper.Lists.{NoRepeats}
+use Rattle.theory.specs.paper.Sound.{Bounded}
 use Rattle.storage.specs.Lists.{sizeAt, listAt, ListsIn}
 
 -- The net that lists of fanins are. Stale entries behind the drawing are no part of it.

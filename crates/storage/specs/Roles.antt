@@ -4,7 +4,7 @@ use Prim.Native.Nat.{ℕ}
 use mathlib.Core.Bool.{_||_}
 use mathlib.Core.List.{List}
 use lib.Dec.{eqb}
-use Rattle.theory.specs.Values.{bit}
+use Rattle.theory.specs.paper.Values.{bit}
 use Rattle.storage.specs.Marks.{view}
 
 unfoldable pub walkedBit : ℕ → ℕ

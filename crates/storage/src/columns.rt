@@ -16,7 +16,7 @@ pub fn clear(cells: &mut [u16], size: usize)
     }
 }
 
-// The same of words.
+// The first `size` words become 0.
 pub fn clear_words(words: &mut [u64], size: usize)
     requires { ⌜ size ≤ length (now words) ⌝ }
     ensures { λ _. ⌜ now (words .exit) ≡ cleared size (now (words .entry)) ⌝ }

@@ -1,12 +1,28 @@
-// Lists of up to six ids, seven places a node: how many, then the ids. Fanins lie so, and cuts.
+// Ids in an array: one after the other, as in an order or among leaves; or lists of up to six, seven places a node: how many, then the ids,
+// as fanins lie, and cuts.
 use crate::CutSize;
 use crate::Node;
 ghost use mathlib.Core.Path.{_≡_};
 ghost use Prim.Native.Nat.{_+_, _*_, _≤_, _<_};
-ghost use lib.ListN.{length, set};
+ghost use lib.ListN.{length, getD, set};
 ghost use Rattle.storage.specs.Lists.{sizeAt, entryAt};
 
-// The places of a node.
+// The id at a place.
+pub fn node_at(ids: &[u16], at: usize) -> Node
+    requires { ⌜ at < length (now ids) ⌝ }
+    ensures { λ r. ⌜ r .id ≡ getD (now (ids .entry)) at 0 ⌝ }
+{
+    Node { id: ids[at] }
+}
+
+pub fn put_node(ids: &mut [u16], at: usize, node: Node)
+    requires { ⌜ at < length (now ids) ⌝ }
+    ensures { λ _. ⌜ now (ids .exit) ≡ set (now (ids .entry)) at (node .id) ⌝ }
+{
+    ids[at] = node.id;
+}
+
+// How many places a node's list takes.
 pub const PLACES: usize = 7;
 
 // How many ids the node's list has.

@@ -3,7 +3,7 @@ use crate::Label;
 use crate::Node;
 ghost use mathlib.Core.Path.{_≡_};
 ghost use mathlib.Core.List.{_++_};
-ghost use Prim.Native.Nat.{_≤_, _<_};
+ghost use Prim.Native.Nat.{max, suc, _≤_, _<_};
 ghost use lib.ListN.{length, getD, set, drop, replicate};
 ghost use Rattle.storage.specs.Marks.{Tells};
 ghost use Rattle.storage.specs.Entries.{cleared};
@@ -57,4 +57,20 @@ pub fn put_label(labels: &mut [u16], node: Node, label: Label)
 {
     let v = node.id as usize;
     labels[v] = label.depth;
+}
+
+pub fn larger(a: Label, b: Label) -> Label
+    ensures { λ r. ⌜ r .depth ≡ max (a .depth) (b .depth) ⌝ }
+{
+    if a.depth < b.depth { b } else { a }
+}
+
+// The label of a gate one above.
+pub fn above(label: Label) -> Label
+    requires { ⌜ suc (label .depth) < 65536 ⌝ }
+    ensures { λ r. ⌜ r .depth ≡ suc (label .depth) ⌝ }
+{
+    Label {
+        depth: label.depth + 1,
+    }
 }

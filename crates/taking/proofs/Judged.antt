@@ -6,29 +6,36 @@ use mathlib.Core.List.{List}
 use native.Mathlib.Omega.{arith}
 use lib.ListN.{length}
 use borrow.Author.Tests.{le-leb}
-use Rattle.theory.specs.Net.{Net}
+use Rattle.theory.specs.paper.Net.{Net}
+use Rattle.theory.specs.paper.Walk.{LowestLoop, NoLoop}
 use Rattle.storage.specs.declared.Node.{Node}
 use Rattle.storage.specs.declared.Numbers.{Numbers}
 use Rattle.storage.specs.Drawings.{Arranged}
 use Rattle.drawing.specs.declared.Refusal.{Refusal}
+use Rattle.drawing.specs.declared.Refusal.the-variants as refusal
+use Rattle.drawing.specs.Refusals as table
 use Rattle.drawing.specs.declared.Verdict.{Verdict}
 use Rattle.drawing.specs.declared.Verdict.the-variants.{Sound, Refused as RefusedFor}
 use Rattle.drawing.specs.declared.Reading.the-variants as read
-use Rattle.drawing.specs.Limits.{mostNodes, mostOutputs, mostPlaces}
-use Rattle.drawing.specs.Table.{netOf}
-use Rattle.drawing.specs.Fields.{headK, headI}
-use Rattle.drawing.specs.Reading.{Arrays, arraysOf, found, reading, replyOf, filled, enough, tableOf, nodesOf, numbersOf}
+use Rattle.drawing.specs.paper.Limits.{mostNodes, mostOutputs}
+use Rattle.drawing.specs.paper.Table.{netOf}
+use Rattle.drawing.specs.paper.Fields.{headK, headI}
+use Rattle.drawing.specs.paper.Reading.{found, tableOf, nodesOf, numbersOf}
+use Rattle.drawing.specs.Reading.{Arrays, arraysOf, reading, replyOf, filled, enough, mostPlaces}
 use Rattle.drawing.proofs.SoundTables.{SoundTable, table-sound}
 use Rattle.drawing.proofs.Held.{Holds, whole-holds}
 use Rattle.drawing.proofs.Wholes.{enough-long}
+use Rattle.walking.specs.declared.Ordering.{Ordering}
 use Rattle.walking.specs.declared.Ordering.the-variants as made
 use Rattle.walking.specs.Promises.{LoopRuling, OrderMade}
 use Rattle.walking.proofs.Outcomes.{order-taken}
-use Rattle.walking.proofs.Unique.{ruling-one}
+use Rattle.walking.proofs.Unique.{lowest-one, some-loop}
 use Rattle.taking.specs.declared.Taking.{Taking}
 use Rattle.taking.specs.declared.Taking.the-variants.{Taken, Refused, LoopAt, TooShort}
 use Rattle.taking.specs.Taking.{roomy, afterOrder, After, Takes}
-use Rattle.taking.specs.Judged.{Says, Ready}
+use Rattle.taking.specs.paper.Taken.{drawn, ReadsWhole, IsTaken}
+use Rattle.taking.specs.paper.Says.{Says}
+use Rattle.taking.specs.Judged.{Ready}
 use Rattle.taking.proofs.Takings.{holds-drawn}
 
 abbrev isSound : Verdict → Bool
@@ -42,9 +49,19 @@ says-one {s} (Says.refused {x = x} e) (Says.refused {x = y} f) = ap refusal (sym
     refusal : Verdict → Taking
     refusal (RefusedFor z) = Refused z
     refusal Sound = TooShort
-says-one (Says.refused e) (Says.ordered f ruling) = absurd (true≢false (ap isSound (sym f ∙ e)))
-says-one (Says.ordered f ruling) (Says.refused e) = absurd (true≢false (ap isSound (sym f ∙ e)))
-says-one {s} (Says.ordered e ruling) (Says.ordered f other) = ap (afterOrder (numbersOf s)) (ruling-one ruling other)
+says-one (Says.refused e) (Says.loop f _) = absurd (true≢false (ap isSound (sym f ∙ e)))
+says-one (Says.refused e) (Says.taken t) = absurd (true≢false (ap isSound (sym (t .whole) ∙ e)))
+says-one (Says.loop f _) (Says.refused e) = absurd (true≢false (ap isSound (sym f ∙ e)))
+says-one (Says.loop _ a) (Says.loop _ b) = ap (λ (i : ℕ). LoopAt (record { id = i })) (lowest-one a b)
+says-one (Says.loop _ a) (Says.taken t) = absurd (some-loop (t .no-loop) a)
+says-one (Says.taken t) (Says.refused e) = absurd (true≢false (ap isSound (sym (t .whole) ∙ e)))
+says-one (Says.taken t) (Says.loop _ b) = absurd (some-loop (t .no-loop) b)
+says-one (Says.taken _) (Says.taken _) = refl
+
+-- a table that reads whole, once its order is made
+after-order : {s : List ℕ} {o : Ordering} → ReadsWhole s → LoopRuling (drawn s) o → Says s (afterOrder (numbersOf s) o)
+after-order whole (LoopRuling.none free) = Says.taken (record { whole = whole; no-loop = free })
+after-order whole (LoopRuling.lowest loop) = Says.loop whole loop
 
 module _ (a : Arrays) (order₀ marks₀ s : List ℕ) (long : enough a ≡ true) where
   reading-is : reading a s ≡ replyOf s (found s) (found s .verdict)
@@ -53,7 +70,7 @@ module _ (a : Arrays) (order₀ marks₀ s : List ℕ) (long : enough a ≡ true
 
   after-says : {r : Taking} {order marks : List ℕ} (v : Verdict) → found s .verdict ≡ v →
       After s order₀ marks₀ r order marks (replyOf s (found s) v) → Says s r
-  after-says Sound e (After.ordered o p made) = subst (Says s) (sym p) (Says.ordered e (made .reply))
+  after-says Sound e (After.ordered o p made) = subst (Says s) (sym p) (after-order e (made .reply))
   after-says (RefusedFor x) e (After.refused p _ _) = subst (Says s) (sym p) (Says.refused e)
 
   pub takes-says : {r : Taking} {b : Arrays} {order marks : List ℕ} → roomy order₀ marks₀ ≡ true →
@@ -79,6 +96,9 @@ pub record TakenAs (s : List ℕ) (n : Numbers) (b : Arrays) (order : List ℕ) 
   pub numbers-are : n ≡ numbersOf s
   pub ready : Ready s (b .lines .fanins) (b .lines .rows) (b .outputs) order
 
+loop-free : {net : Net} → LoopRuling net made.Whole → NoLoop net
+loop-free (LoopRuling.none free) = free
+
 module _ (a : Arrays) (order₀ marks₀ s : List ℕ) (long : enough a ≡ true) (b : Arrays) (order marks : List ℕ) (n : Numbers)
     (rows-long : mostNodes ≤ length (b .lines .rows)) (outputs-long : mostOutputs ≤ length (b .outputs)) (order-long : mostNodes ≤ length order) where
   ready-whole : b ≡ filled a s → found s .verdict ≡ Sound → (made : OrderMade (netOf (tableOf s)) order₀ marks₀ made.Whole order marks) →
@@ -97,8 +117,7 @@ module _ (a : Arrays) (order₀ marks₀ s : List ℕ) (long : enough a ≡ true
         k-small = table .head .k-most;
       } in
       record {
-        whole = sound;
-        no-loop = order-made .reply;
+        taken = record { whole = sound; no-loop = loop-free (order-made .reply) };
         net = holds .net;
         drawing = drawing;
         rows-long = omega arith;
@@ -146,8 +165,8 @@ module _ {fanins₀ rows₀ outputs₀ order₀ marks₀ s fanins rows outputs o
     where
       says-not-short : {u : Taking} → Says s u → u ≡ TooShort → ⊥
       says-not-short (Says.refused e) same = let z : _≡_ {A = ℕ} 0 1 = cc in omega arith
-      says-not-short (Says.ordered {o = made.Whole} e ruling) same = let z : _≡_ {A = ℕ} 0 1 = cc in omega arith
-      says-not-short (Says.ordered {o = made.LoopAt g} e ruling) same = let z : _≡_ {A = ℕ} 0 1 = cc in omega arith
+      says-not-short (Says.loop _ _) same = let z : _≡_ {A = ℕ} 0 1 = cc in omega arith
+      says-not-short (Says.taken _) same = let z : _≡_ {A = ℕ} 0 1 = cc in omega arith
 
 -- What is said of a table that is refused
 
@@ -156,21 +175,24 @@ refused-verdict {s} {x} said = by said refl
   where
     by : {r : Taking} → Says s r → r ≡ Refused x → found s .verdict ≡ RefusedFor x
     by (Says.refused {x = y} e) same = let z : y ≡ x = cc in e ∙ ap RefusedFor z
-    by (Says.ordered {o = made.Whole} e ruling) same = let z : _≡_ {A = ℕ} 0 1 = cc in absurd (omega arith)
-    by (Says.ordered {o = made.LoopAt g} e ruling) same = let z : _≡_ {A = ℕ} 0 1 = cc in absurd (omega arith)
+    by (Says.loop _ _) same = let z : _≡_ {A = ℕ} 0 1 = cc in absurd (omega arith)
+    by (Says.taken _) same = let z : _≡_ {A = ℕ} 0 1 = cc in absurd (omega arith)
 
-pub loop-said : {s : List ℕ} {g : Node} → Says s (LoopAt g) → (found s .verdict ≡ Sound) × LoopRuling (netOf (tableOf s)) (made.LoopAt g)
+pub loop-said : {s : List ℕ} {g : Node} → Says s (LoopAt g) → ReadsWhole s × LowestLoop (drawn s) (g .id)
 loop-said {s} {g} said = by said refl
   where
-    by : {r : Taking} → Says s r → r ≡ LoopAt g → (found s .verdict ≡ Sound) × LoopRuling (netOf (tableOf s)) (made.LoopAt g)
+    by : {r : Taking} → Says s r → r ≡ LoopAt g → ReadsWhole s × LowestLoop (drawn s) (g .id)
     by (Says.refused e) same = let z : _≡_ {A = ℕ} 0 1 = cc in absurd (omega arith)
-    by (Says.ordered {o = made.Whole} e ruling) same = let z : _≡_ {A = ℕ} 0 1 = cc in absurd (omega arith)
-    by (Says.ordered {o = made.LoopAt h} e ruling) same =
+    by (Says.loop {g = h} e loop) same =
         let z : h ≡ g = cc in
-        (e, subst (λ (u : Node). LoopRuling (netOf (tableOf s)) (made.LoopAt u)) z ruling)
+        (e, subst (λ (u : Node). LowestLoop (drawn s) (u .id)) z loop)
+    by (Says.taken _) same = let z : _≡_ {A = ℕ} 0 1 = cc in absurd (omega arith)
 
--- a table taken reads whole and has no loop
-pub free-of : {s : List ℕ} {t : Taking} {n : Numbers} → Says s t → t ≡ Taken n → (found s .verdict ≡ Sound) × LoopRuling (netOf (tableOf s)) made.Whole
-free-of (Says.refused e) same = let z : _≡_ {A = ℕ} 0 1 = cc in absurd (omega arith)
-free-of (Says.ordered {o = made.Whole} e ruling) same = (e, ruling)
-free-of (Says.ordered {o = made.LoopAt g} e ruling) same = let z : _≡_ {A = ℕ} 0 1 = cc in absurd (omega arith)
+-- the paper's numbers of a table's refusals are 1 to 6
+pub refusal-number : (x : Refusal) → (1 ≤ table.number x) × (table.number x ≤ 6)
+refusal-number (refusal.Torn at) = (omega arith, omega arith)
+refusal-number (refusal.Tag at) = (omega arith, omega arith)
+refusal-number (refusal.Length at) = (omega arith, omega arith)
+refusal-number (refusal.Range at) = (omega arith, omega arith)
+refusal-number (refusal.Rows at) = (omega arith, omega arith)
+refusal-number (refusal.Outputs at) = (omega arith, omega arith)

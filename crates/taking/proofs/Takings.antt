@@ -5,17 +5,18 @@ use mathlib.Core.Bool.{true≢false}
 use mathlib.Core.List.{List}
 use native.Mathlib.Omega.{arith}
 use lib.ListN.{length}
-use Rattle.theory.specs.Net.{Net}
-use Rattle.theory.specs.Sound.{Bounded}
+use Rattle.theory.specs.paper.Net.{Net}
+use Rattle.theory.specs.paper.Sound.{Bounded}
 use Rattle.storage.specs.declared.Numbers.{Numbers}
 use Rattle.storage.specs.Drawings.{netIn, Drawn}
 use Rattle.storage.proofs.Drawings.{drawn-six}
 use Rattle.drawing.specs.declared.Reading.{Reading}
 use Rattle.drawing.specs.declared.Reading.the-variants as read
-use Rattle.drawing.specs.Limits.{mostNodes}
-use Rattle.drawing.specs.Table.{netOf}
-use Rattle.drawing.specs.Fields.{headK, headI}
-use Rattle.drawing.specs.Reading.{Arrays, reading, filled, nodesOf, tableOf}
+use Rattle.drawing.specs.paper.Limits.{mostNodes}
+use Rattle.drawing.specs.paper.Table.{netOf}
+use Rattle.drawing.specs.paper.Fields.{headK, headI}
+use Rattle.drawing.specs.paper.Reading.{nodesOf, tableOf}
+use Rattle.drawing.specs.Reading.{Arrays, reading, filled}
 use Rattle.drawing.proofs.SoundTables.{read-whole, table-sound}
 use Rattle.drawing.proofs.Held.{Holds, whole-holds}
 use Rattle.walking.specs.Promises.{OrderRoom, OrderMade}

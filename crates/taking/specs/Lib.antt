@@ -1,2 +1,3 @@
+pub mod paper
 pub mod Taking
 pub mod Judged

@@ -9,9 +9,10 @@ use Rattle.storage.specs.declared.Numbers.{Numbers}
 use Rattle.storage.specs.Drawings.{netIn}
 use Rattle.drawing.specs.declared.Reading.{Reading}
 use Rattle.drawing.specs.declared.Reading.the-variants as read
-use Rattle.drawing.specs.Limits.{mostNodes}
-use Rattle.drawing.specs.Table.{netOf}
-use Rattle.drawing.specs.Reading.{Arrays, reading, filled, tableOf}
+use Rattle.drawing.specs.paper.Limits.{mostNodes}
+use Rattle.drawing.specs.paper.Table.{netOf}
+use Rattle.drawing.specs.paper.Reading.{tableOf}
+use Rattle.drawing.specs.Reading.{Arrays, reading, filled}
 use Rattle.walking.specs.declared.Ordering.{Ordering}
 use Rattle.walking.specs.declared.Ordering.the-variants as made
 use Rattle.walking.specs.Promises.{OrderMade}
@@ -39,7 +40,7 @@ pub data After (s order₀ marks₀ : List ℕ) (r : Taking) (order marks : List
   ordered : {n : Numbers} → (o : Ordering) → r ≡ afterOrder n o → OrderMade (netOf (tableOf s)) order₀ marks₀ o order marks →
       After s order₀ marks₀ r order marks (read.Whole n)
 
--- The promise of a taking.
+-- What `take_table` promises: arrays too short for an order are left as they were; else they are as the reading leaves them, and ordered.
 pub data Takes (before : Arrays) (order₀ marks₀ s : List ℕ) (r : Taking) (after : Arrays) (order marks : List ℕ) : Type 0 where
   short : roomy order₀ marks₀ ≡ false → r ≡ TooShort → after ≡ before → order ≡ order₀ → marks ≡ marks₀ →
       Takes before order₀ marks₀ s r after order marks

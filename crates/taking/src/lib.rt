@@ -18,6 +18,9 @@ pub enum Taking {
     TooShort,
 }
 
+// The paper's number of LoopAt, whoever answers it.
+pub const LOOP: u64 = 7;
+
 // Orders the gates of a table that was read whole.
 fn order_table(numbers: Numbers, fanins: &[u16], order: &mut [u16], marks: &mut [u8]) -> Taking
     requires { ⌜ OrderRoom (numbers .inputs) (numbers .nodes) (now fanins) (now order) (now marks) ⌝ }

@@ -9,17 +9,17 @@ use mathlib.Core.Bool.{Bool, true, decide}
 use mathlib.Mathlib.Data.Bool.Basic.{decide-true, of-decide-true}
 use mathlib.Core.Logic.{inr}
 use mathlib.Core.List.{List, _∷_, map, List·Memᴰ, List·Memᴰ·head}
-use Rattle.theory.specs.Net.{Net, Gate}
-use Rattle.theory.specs.Sound.{Bounded, Ranked}
-use Rattle.theory.specs.Lists.{greatest}
-use Rattle.theory.specs.Walk.{Cut}
-use Rattle.theory.specs.Cover.{Luts, Wanted, Cover, Reaches}
+use Rattle.theory.specs.paper.Net.{Net, Gate}
+use Rattle.theory.specs.paper.Sound.{Bounded, Ranked}
+use Rattle.theory.specs.paper.Lists.{greatest}
+use Rattle.theory.specs.paper.Walk.{Cut}
+use Rattle.theory.specs.paper.Cover.{Luts, Wanted, Cover, Reaches}
 use Rattle.theory.proofs.Decisions.{decide-both, decide-some}
 use Rattle.theory.proofs.Members.{greatest-at-most}
 use Rattle.theory.proofs.Leads.{Leads, decide-leads}
 use Rattle.theory.proofs.Walks.{Stops, cut-stops, met-rank, decide-gate}
 use Rattle.theory.proofs.Depths.{Within, Placed, within-numbers, depth-within}
-use Rattle.theory.specs.Evidence.{ZeroAtInputs}
+use Rattle.theory.specs.Lines.{ZeroAtInputs}
 
 -- Below
 

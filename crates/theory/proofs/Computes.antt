@@ -7,11 +7,12 @@ use mathlib.Core.Logic.{_⊎_, inl, inr, ⊎-elim}
 use mathlib.Core.Bool.{Bool, true}
 use mathlib.Mathlib.Data.Bool.Basic.{eq-false-of-not-eq-true}
 use mathlib.Core.List.{List, List·Memᴰ}
-use Rattle.theory.specs.Net.{Net, Input}
-use Rattle.theory.specs.Values.{Obeys}
-use Rattle.theory.specs.Cover.{Luts, Wanted, Cover}
-use Rattle.theory.specs.Lookup.{ObeysLuts, TablesFit}
-use Rattle.theory.specs.Sound.{Ranked}
+use Rattle.theory.specs.paper.Net.{Net, Input}
+use Rattle.theory.specs.paper.Values.{Obeys}
+use Rattle.theory.specs.paper.Cover.{Luts, Wanted, Cover}
+use Rattle.theory.specs.paper.Lookup.{ObeysLuts}
+use Rattle.theory.specs.Lines.{TablesFit}
+use Rattle.theory.specs.paper.Sound.{Ranked}
 use Rattle.theory.proofs.Walks.{NodesFeed, met-rank, gate-no-input}
 use Rattle.theory.proofs.Depths.{wanted-placed, leaf-placed}
 use Rattle.theory.proofs.Valuations.{follows-agree, settle, settle-sets, settle-follows}

@@ -9,12 +9,12 @@ use mathlib.Core.Logic.{_⊎_, inl, inr, ⊎-elim}
 use mathlib.Core.Bool.{Bool, not}
 use mathlib.Core.List.{List, map, List·Memᴰ}
 use lib.ListN.{length, length-map}
-use Rattle.theory.specs.Net.{Net, Gate}
-use Rattle.theory.specs.Values.{rowOf, resultAt}
-use Rattle.theory.specs.Walk.{Walked, Cut, Cone}
-use Rattle.theory.specs.Lookup.{ObeysCone, ConeTable}
-use Rattle.theory.specs.Sound.{Ranked}
-use Rattle.theory.specs.Lists.{isMember}
+use Rattle.theory.specs.paper.Net.{Net, Gate}
+use Rattle.theory.specs.paper.Values.{rowOf, resultAt}
+use Rattle.theory.specs.paper.Walk.{Walked, Cut, Cone}
+use Rattle.theory.specs.paper.Lookup.{ObeysCone, ConeTable}
+use Rattle.theory.specs.paper.Sound.{Ranked}
+use Rattle.theory.specs.Members.{isMember}
 use Rattle.theory.proofs.Tests.{decides-member, decides-not}
 use Rattle.theory.proofs.Members.{rising-no-repeats}
 use Rattle.theory.proofs.Picks.{map-agree, agree-of-map, settingOf, setting-written}

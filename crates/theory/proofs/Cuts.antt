@@ -5,10 +5,10 @@ use native.Mathlib.Omega.{arith}
 use mathlib.Core.Path.{_≡_, refl, subst}
 use mathlib.Core.Logic.{⊎-elim}
 use mathlib.Core.List.{List, List·Memᴰ}
-use Rattle.theory.specs.Net.{Net, Gate}
-use Rattle.theory.specs.Sound.{Bounded, Ranked}
-use Rattle.theory.specs.Walk.{Walked, Met, Cut, Cone}
-use Rattle.theory.specs.Evidence.{DistinctFanins}
+use Rattle.theory.specs.paper.Net.{Net, Gate}
+use Rattle.theory.specs.paper.Sound.{Bounded, Ranked}
+use Rattle.theory.specs.paper.Walk.{Walked, Met, Cut, Cone}
+use Rattle.theory.specs.paper.Evidence.{DistinctFanins}
 use Rattle.theory.proofs.Ranks.{by-rank}
 use Rattle.theory.proofs.Tests.{decided}
 use Rattle.theory.proofs.Members.{no-longer, some-member, member-counts, rising-no-repeats, rising-equal, Sorted, sort}

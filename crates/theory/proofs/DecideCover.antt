@@ -5,10 +5,10 @@ use mathlib.Core.Logic.{_⊎_, inl, inr}
 use mathlib.Core.Bool.{Bool, true, not, _&&_, _||_}
 use mathlib.Core.List.{List, List·Memᴰ}
 use lib.Dec.{ltb}
-use Rattle.theory.specs.Net.{Net}
-use Rattle.theory.specs.Sound.{Bounded}
-use Rattle.theory.specs.Cover.{Luts, Wanted, Cover, lutsOf}
-use Rattle.theory.specs.Lists.{isMember}
+use Rattle.theory.specs.paper.Net.{Net}
+use Rattle.theory.specs.paper.Sound.{Bounded}
+use Rattle.theory.specs.paper.Cover.{Luts, Wanted, Cover}
+use Rattle.theory.specs.Members.{lutsOf, isMember}
 use Rattle.theory.proofs.Tests.{Decides, decides-as, decides-itself, _and-then_, decides-or, decides-if}
 use Rattle.theory.proofs.Tests.{decides-lt, decides-member, decides-every, decides-below, decides-some-below}
 use Rattle.theory.proofs.Tests.{every, everyBelow, someBelow}

@@ -7,10 +7,10 @@ use mathlib.Core.Bool.{Bool, not, _&&_, _||_}
 use mathlib.Core.List.{List, [], List·Memᴰ}
 use lib.ListN.{length}
 use lib.Dec.{leb, ltb, eqb}
-use Rattle.theory.specs.Net.{Net}
-use Rattle.theory.specs.Sound.{Bounded}
-use Rattle.theory.specs.Walk.{Walked, Met, Behind, Loop, Cut, Cone}
-use Rattle.theory.specs.Lists.{isMember}
+use Rattle.theory.specs.paper.Net.{Net}
+use Rattle.theory.specs.paper.Sound.{Bounded}
+use Rattle.theory.specs.paper.Walk.{Walked, Met, Behind, Loop, LowestLoop, Cut, Cone}
+use Rattle.theory.specs.Members.{isMember}
 use Rattle.theory.proofs.Tests.{Decides, decides-as, _and-then_, decides-or, decides-not, decides-if}
 use Rattle.theory.proofs.Tests.{decides-le, decides-lt, decides-equal, decides-member, decides-every}
 use Rattle.theory.proofs.Tests.{decides-below, decides-rising, every, everyBelow, isRising}
@@ -80,6 +80,11 @@ unfoldable pub isLoop : Net → ℕ → Bool
 unfolding isBehind
 isLoop net g = isBehind net g g
 
+-- and the lowest such gate?
+unfoldable pub isLowestLoop : Net → ℕ → Bool
+unfolding everyBelow isGate isLoop
+isLowestLoop net g = isGate net g && isLoop net g && everyBelow g (λ h. not (isGate net h) || not (isLoop net h))
+
 unfoldable isCutBy : List (List Bool) → Net → ℕ → ℕ → List ℕ → Bool
 unfolding isMetBy every everyBelow isMember isRising
 isCutBy rows net k t leaves = isRising leaves && leb 1 (length leaves) && leb (length leaves) k && every (isMetBy rows net t) leaves &&
@@ -137,3 +142,12 @@ module _ {net : Net} {b : ℕ} (bounded : Bounded net b) {t : ℕ} (node : t < n
       and-then (λ _. decides-every (isMet net leaves t) (decides-met leaves) leaves)
       and-then (λ _. decides-below (net .inputs) (λ v. not (isMet net leaves t v) || isMember v leaves)
       (λ v _. decides-if (decides-met leaves v) (λ _. decides-member v leaves))))
+
+pub decides-lowest-loop : {net : Net} {b : ℕ} → Bounded net b → (g : ℕ) → Decides (isLowestLoop net g) (LowestLoop net g)
+unfolding isLowestLoop
+decides-lowest-loop {net} bounded g = decides-as
+    (λ h. record { gate = h .0 .0; loop = h .0 .1; lowest = h .1 })
+    (λ l. ((l .gate, l .loop), l .lowest))
+    (decides-gate net g
+    and-then (λ gate. decides-loop bounded (gate .below))
+    and-then (λ _. decides-below g _ (λ h _. decides-if (decides-gate net h) (λ gate. decides-not (decides-loop bounded (gate .below))))))

@@ -7,11 +7,12 @@ use mathlib.Core.Bool.{Bool, false, not, _&&_, _||_, false≢true}
 use mathlib.Core.List.{List, [], _∷_, List·Memᴰ}
 use lib.ListN.{length}
 use lib.Dec.{ltb, eqb}
-use Rattle.theory.specs.Net.{Net, Gate}
-use Rattle.theory.specs.Sound.{Bounded}
-use Rattle.theory.specs.Lists.{greatest, isMember}
-use Rattle.theory.specs.Walk.{Behind}
-use Rattle.theory.specs.Evidence.{peak, InD, Outside, Run, TruePath, Evidence, joined}
+use Rattle.theory.specs.paper.Net.{Net, Gate}
+use Rattle.theory.specs.paper.Sound.{Bounded}
+use Rattle.theory.specs.paper.Lists.{greatest}
+use Rattle.theory.specs.Members.{isMember}
+use Rattle.theory.specs.paper.Walk.{Behind}
+use Rattle.theory.specs.paper.Evidence.{peak, InD, Outside, Run, TruePath, Evidence, joined}
 use Rattle.theory.proofs.Tests.{Decides, decides-as, _and-then_, decides-or, decides-not, decides-lt}
 use Rattle.theory.proofs.Tests.{decides-equal, decides-member, decides-every, decides-some-below, decides-apart}
 use Rattle.theory.proofs.Tests.{every, someBelow, isApart}

@@ -4,10 +4,11 @@ use Prim.Native.Nat.{ℕ, suc, _<_}
 use mathlib.Core.Bool.{Bool, not, _&&_, _||_}
 use mathlib.Core.List.{List, map}
 use lib.Dec.{leb, eqb}
-use Rattle.theory.specs.Net.{Net}
-use Rattle.theory.specs.Sound.{Bounded}
-use Rattle.theory.specs.Lists.{greatest}
-use Rattle.theory.specs.Evidence.{peak, Line, Lines}
+use Rattle.theory.specs.paper.Net.{Net}
+use Rattle.theory.specs.paper.Sound.{Bounded}
+use Rattle.theory.specs.paper.Lists.{greatest}
+use Rattle.theory.specs.paper.Evidence.{peak}
+use Rattle.theory.specs.Lines.{Line, Lines}
 use Rattle.theory.proofs.Tests.{Decides, decides-as, _and-then_, decides-or, decides-if, decides-le, decides-equal, decides-below, everyBelow}
 use Rattle.theory.proofs.DecideNet.{isGate, decides-gate}
 use Rattle.theory.proofs.DecideCut.{isCut, decides-cut}

@@ -6,11 +6,12 @@ use mathlib.Core.Bool.{Bool, not, _&&_, _||_}
 use mathlib.Core.List.{List}
 use lib.ListN.{length}
 use lib.Dec.{leb, eqb}
-use Rattle.theory.specs.Net.{Net}
-use Rattle.theory.specs.Sound.{Bounded}
-use Rattle.theory.specs.Lists.{greatest, isMember}
-use Rattle.theory.specs.Walk.{Cone}
-use Rattle.theory.specs.Evidence.{peak, LeastCut, DistinctFanins, MappersCut}
+use Rattle.theory.specs.paper.Net.{Net}
+use Rattle.theory.specs.paper.Sound.{Bounded}
+use Rattle.theory.specs.paper.Lists.{greatest}
+use Rattle.theory.specs.Members.{isMember}
+use Rattle.theory.specs.paper.Walk.{Cone}
+use Rattle.theory.specs.paper.Evidence.{peak, LeastCut, DistinctFanins, MappersCut}
 use Rattle.theory.proofs.Tests.{Decides, decides-as, _and-then_, decides-or, decides-if, decides-le}
 use Rattle.theory.proofs.Tests.{decides-equal, decides-member, decides-every, decides-below, decides-rising}
 use Rattle.theory.proofs.Tests.{isRising, every, everyBelow}

@@ -8,8 +8,8 @@ use mathlib.Core.Bool.{Bool, not, _&&_, _||_}
 use mathlib.Core.List.{List, [], _∷_, List·Memᴰ, List·Memᴰ·not-nil}
 use lib.ListN.{length}
 use lib.Dec.{leb, ltb, eqb}
-use Rattle.theory.specs.Net.{Net, Gate}
-use Rattle.theory.specs.Sound.{Bounded, Ranked}
+use Rattle.theory.specs.paper.Net.{Net, Gate}
+use Rattle.theory.specs.paper.Sound.{Bounded, Ranked}
 use Rattle.theory.proofs.Tests.{Decides, decides-as, _and-then_, decides-if, decides-le, decides-lt, decides-equal, decides-every, decides-below, every, everyBelow}
 
 unfoldable pub isGate : Net → ℕ → Bool

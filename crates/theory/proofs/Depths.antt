@@ -7,10 +7,10 @@ use mathlib.Core.Path.{_≡_, refl, sym, subst}
 use mathlib.Core.Bool.{true}
 use mathlib.Core.Logic.{_↔_, _⊎_, inl, inr, ⊎-elim}
 use mathlib.Core.List.{List, [], _∷_, map, List·Memᴰ, List·Memᴰ·head, List·Memᴰ·tail, List·Memᴰ·not-nil, List·Memᴰ·cases-cons}
-use Rattle.theory.specs.Net.{Net, Gate, Input}
-use Rattle.theory.specs.Sound.{Ranked}
-use Rattle.theory.specs.Cover.{Luts, Wanted, Cover, Depth, Depths}
-use Rattle.theory.specs.Lists.{greatest}
+use Rattle.theory.specs.paper.Net.{Net, Gate, Input}
+use Rattle.theory.specs.paper.Sound.{Ranked}
+use Rattle.theory.specs.paper.Cover.{Luts, Wanted, Cover, Depth, Depths}
+use Rattle.theory.specs.paper.Lists.{greatest}
 use Rattle.theory.proofs.Members.{at-most-greatest, greatest-at-most}
 use Rattle.theory.proofs.Walks.{NodesFeed, cone-of-walked, met-rank, input-or-gate, gate-no-input}
 

@@ -6,11 +6,12 @@ use mathlib.Core.Path.{_≡_, refl, sym, ap, subst}
 use mathlib.Core.Logic.{_⊎_, inl, inr, ⊎-elim}
 use mathlib.Core.List.{List, [], _∷_, List·Memᴰ, List·Memᴰ·head, List·Memᴰ·tail, List·Memᴰ·not-nil, List·Memᴰ·cases-cons, Memᴰ·append-left, Memᴰ·append-right, Memᴰ·cast}
 use lib.ListN.{length}
-use Rattle.theory.specs.Net.{Net, Gate}
-use Rattle.theory.specs.Sound.{Bounded}
-use Rattle.theory.specs.Lists.{NoRepeats}
-use Rattle.theory.specs.Walk.{Walked, Met, Behind}
-use Rattle.theory.specs.Evidence.{peak, InD, Outside, Run, TruePath, joined, Evidence, NeverFalls}
+use Rattle.theory.specs.paper.Net.{Net, Gate}
+use Rattle.theory.specs.paper.Sound.{Bounded}
+use Rattle.theory.specs.paper.Lists.{NoRepeats}
+use Rattle.theory.specs.paper.Walk.{Walked, Met, Behind}
+use Rattle.theory.specs.paper.Evidence.{peak, InD, Outside, Run, TruePath, joined, Evidence}
+use Rattle.theory.specs.Lines.{NeverFalls}
 use Rattle.theory.proofs.Members.{no-longer, at-most-greatest, no-repeats-after, no-repeats-apart}
 use Rattle.theory.proofs.Walks.{Stops, Tight, walk-on, behind-on, behind-walked, walk-goes-on, leaf-or-walked, met-node, reader-is-gate}
 

@@ -7,11 +7,12 @@ use native.Mathlib.Decide.{decLe, ℕ-discrete}
 use native.Mathlib.Omega.{arith}
 use mathlib.Core.Path.{_≡_, refl, sym, _∙_}
 use mathlib.Core.List.{List, []}
-use Rattle.theory.specs.Net.{Net, Gate}
-use Rattle.theory.specs.Sound.{Bounded, Ranked}
-use Rattle.theory.specs.Walk.{Cut}
-use Rattle.theory.specs.Cover.{Label}
-use Rattle.theory.specs.Evidence.{peak, Outside, NeverFalls, ZeroAtInputs}
+use Rattle.theory.specs.paper.Net.{Net, Gate}
+use Rattle.theory.specs.paper.Sound.{Bounded, Ranked}
+use Rattle.theory.specs.paper.Walk.{Cut}
+use Rattle.theory.specs.paper.Cover.{Label}
+use Rattle.theory.specs.paper.Evidence.{peak, Outside}
+use Rattle.theory.specs.Lines.{NeverFalls, ZeroAtInputs}
 use Rattle.theory.proofs.Ranks.{common-bound}
 use Rattle.theory.proofs.Tests.{decided}
 use Rattle.theory.proofs.Decisions.{decide-both}

@@ -5,11 +5,12 @@ use native.Mathlib.Omega.{arith}
 use mathlib.Core.Path.{_≡_, subst}
 use mathlib.Core.Logic.{_↔_, ⊎-elim}
 use mathlib.Core.List.{List}
-use Rattle.theory.specs.Net.{Net, Gate}
-use Rattle.theory.specs.Sound.{Bounded, Ranked}
-use Rattle.theory.specs.Walk.{Cut}
-use Rattle.theory.specs.Cover.{Label}
-use Rattle.theory.specs.Evidence.{peak, Outside, NeverFalls, Peaked, ZeroAtInputs}
+use Rattle.theory.specs.paper.Net.{Net, Gate}
+use Rattle.theory.specs.paper.Sound.{Bounded, Ranked}
+use Rattle.theory.specs.paper.Walk.{Cut}
+use Rattle.theory.specs.paper.Cover.{Label}
+use Rattle.theory.specs.paper.Evidence.{peak, Outside, Peaked}
+use Rattle.theory.specs.Lines.{NeverFalls, ZeroAtInputs}
 use Rattle.theory.proofs.Walks.{cut-stops, met-node}
 use Rattle.theory.proofs.Bounds.{Unbeaten}
 use Rattle.theory.proofs.Labels.{LocalRule, LocalRules, label-is-one, rules-are-labels, rules-unbeaten, low-outside}

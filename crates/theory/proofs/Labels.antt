@@ -6,12 +6,13 @@ use native.Mathlib.Omega.{arith}
 use mathlib.Core.Path.{_≡_, refl, sym, subst}
 use mathlib.Core.Logic.{_⊎_, inl, inr, ⊎-elim}
 use mathlib.Core.List.{List, map, List·Memᴰ}
-use Rattle.theory.specs.Net.{Net, Gate, Input}
-use Rattle.theory.specs.Sound.{Bounded, Ranked}
-use Rattle.theory.specs.Lists.{greatest}
-use Rattle.theory.specs.Walk.{Walked, Cut}
-use Rattle.theory.specs.Cover.{Reaches, Label}
-use Rattle.theory.specs.Evidence.{peak, InD, Outside, Peaked, ZeroAtInputs}
+use Rattle.theory.specs.paper.Net.{Net, Gate, Input}
+use Rattle.theory.specs.paper.Sound.{Bounded, Ranked}
+use Rattle.theory.specs.paper.Lists.{greatest}
+use Rattle.theory.specs.paper.Walk.{Walked, Cut}
+use Rattle.theory.specs.paper.Cover.{Reaches, Label}
+use Rattle.theory.specs.paper.Evidence.{peak, InD, Outside, Peaked}
+use Rattle.theory.specs.Lines.{ZeroAtInputs}
 use Rattle.theory.proofs.Ranks.{by-rank}
 use Rattle.theory.proofs.Members.{at-most-greatest, greatest-stands}
 use Rattle.theory.proofs.Walks.{Stops, Tight, inner-stops, leaf-or-walked, input-or-gate, gate-no-input}

@@ -28,6 +28,3 @@ pub mod Computes
 pub mod DecideLabels
 pub mod DecideMapper
 pub mod DecideCover
-pub mod DecideDrawing
-pub mod Drawings
-pub mod Traps

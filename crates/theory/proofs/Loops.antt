@@ -7,10 +7,10 @@ use mathlib.Core.Path.{_≡_, refl, subst}
 use mathlib.Core.Logic.{_↔_, ⊎-elim}
 use mathlib.Core.Bool.{Bool, true, false, false≢true}
 use mathlib.Core.List.{List·Memᴰ, List·Memᴰ·not-nil}
-use Rattle.theory.specs.Net.{Net, Gate}
-use Rattle.theory.specs.Values.{bit}
-use Rattle.theory.specs.Walk.{Walked, Loop}
-use Rattle.theory.specs.Sound.{Bounded, Ranked}
+use Rattle.theory.specs.paper.Net.{Net, Gate}
+use Rattle.theory.specs.paper.Values.{bit}
+use Rattle.theory.specs.paper.Walk.{Walked, Loop}
+use Rattle.theory.specs.paper.Sound.{Bounded, Ranked}
 use Rattle.theory.proofs.Walks.{meet-on, behind-fanin, reader-is-gate, fanin-node, no-loop}
 use Rattle.theory.proofs.DecideNet.{NothingBeyond, ranked-by}
 use Rattle.theory.proofs.DecideCut.{isBehind, decides-behind}

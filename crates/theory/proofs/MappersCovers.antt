@@ -6,18 +6,16 @@ use native.Mathlib.Omega.{arith}
 use mathlib.Core.Path.{_≡_, refl, sym, subst}
 use mathlib.Core.Bool.{Bool, true, false}
 use mathlib.Core.List.{List, map, List·Memᴰ}
-use Rattle.theory.specs.Net.{Net}
-use Rattle.theory.specs.Sound.{Bounded, Ranked}
-use Rattle.theory.specs.Lists.{greatest}
-use Rattle.theory.specs.Cover.{Luts, Wanted, Cover, Depth, Depths}
-use Rattle.theory.specs.Evidence.{MappersCut}
+use Rattle.theory.specs.paper.Net.{Net}
+use Rattle.theory.specs.paper.Sound.{Bounded, Ranked}
+use Rattle.theory.specs.paper.Lists.{greatest}
+use Rattle.theory.specs.paper.Cover.{Luts, Wanted, Cover, Depth, Depths}
 use Rattle.theory.proofs.Ranks.{by-rank, common-bound}
 use Rattle.theory.proofs.Members.{at-most-greatest, greatest-at-most}
 use Rattle.theory.proofs.Walks.{met-rank}
 use Rattle.theory.proofs.Depths.{Within, EachWithin, Placed, within-depth, within-depths, within-more, within-numbers, depth-within, depths-within, wanted-placed}
 use Rattle.theory.proofs.Bounds.{lower-bound}
 use Rattle.theory.proofs.FlowMap.{Labels, labels-at-inputs, labels-unbeaten}
-use Rattle.theory.proofs.MappersCuts.{mappers-cut-shows-label}
 
 module _ {net : Net} {k : ℕ} {outputs : List ℕ} {lab : ℕ → ℕ} (bounded : Bounded net k) (ranked : Ranked net) (labels : Labels net k outputs lab) where
   module _ {wanted : List ℕ} {luts : Luts} (cover : Cover net k wanted luts) where
@@ -47,11 +45,6 @@ module _ {net : Net} {k : ℕ} {outputs : List ℕ} {lab : ℕ → ℕ} (bounded
           let (d, less, depths) = depths-within wanted (greatest (map lab wanted)) each in
           let same : d ≡ greatest (map lab wanted) = let least = no-cover-shallower depths in omega arith in
           subst (Depths net luts wanted) same depths
-
-    -- in the mapper's cover they do
-    pub mappers-cuts-show : ((r : ℕ) → luts .root r ≡ true → MappersCut net k lab r (luts .leaves r)) →
-        (r : ℕ) → luts .root r ≡ true → lab r ≡ suc (greatest (map lab (luts .leaves r)))
-    mappers-cuts-show cuts r at = mappers-cut-shows-label bounded ranked labels (cover .gates r at) (cuts r at)
 
 -- The mapper's cover is one
 

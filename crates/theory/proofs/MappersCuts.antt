@@ -5,11 +5,11 @@ use native.Mathlib.Omega.{arith}
 use mathlib.Core.Path.{_≡_}
 use mathlib.Core.List.{List, map}
 use lib.ListN.{length}
-use Rattle.theory.specs.Net.{Net, Gate}
-use Rattle.theory.specs.Sound.{Bounded, Ranked}
-use Rattle.theory.specs.Lists.{greatest}
-use Rattle.theory.specs.Walk.{Cut}
-use Rattle.theory.specs.Evidence.{LeastCut, MappersCut}
+use Rattle.theory.specs.paper.Net.{Net, Gate}
+use Rattle.theory.specs.paper.Sound.{Bounded, Ranked}
+use Rattle.theory.specs.paper.Lists.{greatest}
+use Rattle.theory.specs.paper.Walk.{Cut}
+use Rattle.theory.specs.paper.Evidence.{LeastCut, MappersCut}
 use Rattle.theory.proofs.Walks.{cut-stops}
 use Rattle.theory.proofs.Cuts.{cut-of-fanins, same-cone-same-cut, distinct-fanins-one}
 use Rattle.theory.proofs.Rules.{outside-low, fanins-low}

@@ -8,7 +8,7 @@ use mathlib.Core.List.{List, [], _∷_, map, List·Memᴰ, List·Memᴰ·head, L
 use lib.ListN.{length}
 use lib.Dec.{eqb}
 use borrow.Author.Tests.{eq-eqb, ne-eqb}
-use Rattle.theory.specs.Lists.{NoRepeats}
+use Rattle.theory.specs.paper.Lists.{NoRepeats}
 
 module _ {A : Type 0} {B : Type 0} (f g : A → B) where
   pub map-agree : (us : List A) → ((u : A) → List·Memᴰ u us → f u ≡ g u) → map f us ≡ map g us

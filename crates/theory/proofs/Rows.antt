@@ -14,7 +14,7 @@ use lib.Arith.{digits-lt}
 use lib.Pow.{high, shr-lt, shr-shr}
 use lib.Bits.{block-half, block-odd}
 use borrow.Author.Tests.{eqb-true, eqb-false}
-use Rattle.theory.specs.Values.{bit, rowOf, resultAt}
+use Rattle.theory.specs.paper.Values.{bit, rowOf, resultAt}
 
 -- One bit
 

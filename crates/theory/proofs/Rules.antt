@@ -6,12 +6,13 @@ use native.Mathlib.Omega.{arith}
 use mathlib.Core.Path.{_≡_, refl, sym, ap, _∙_}
 use mathlib.Core.Logic.{inl, inr, ⊎-elim}
 use mathlib.Core.List.{List, map, List·Memᴰ}
-use Rattle.theory.specs.Net.{Net, Gate, Input}
-use Rattle.theory.specs.Sound.{Bounded, Ranked}
-use Rattle.theory.specs.Lists.{greatest}
-use Rattle.theory.specs.Walk.{Walked, Behind, Cut}
-use Rattle.theory.specs.Cover.{Label}
-use Rattle.theory.specs.Evidence.{peak, InD, Outside, DistinctFanins, NeverFalls, Peaked, ZeroAtInputs, Lines, Run, TruePath, Evidence, Owes}
+use Rattle.theory.specs.paper.Net.{Net, Gate, Input}
+use Rattle.theory.specs.paper.Sound.{Bounded, Ranked}
+use Rattle.theory.specs.paper.Lists.{greatest}
+use Rattle.theory.specs.paper.Walk.{Walked, Behind, Cut}
+use Rattle.theory.specs.paper.Cover.{Label}
+use Rattle.theory.specs.paper.Evidence.{peak, InD, Outside, DistinctFanins, Peaked, Run, TruePath, Evidence, Owes}
+use Rattle.theory.specs.Lines.{NeverFalls, ZeroAtInputs, Lines}
 use Rattle.theory.proofs.Members.{at-most-greatest, greatest-at-most}
 use Rattle.theory.proofs.Picks.{map-agree}
 use Rattle.theory.proofs.Walks.{Tight, met-behind, met-node, reader-is-gate, input-or-gate}

@@ -10,7 +10,8 @@ use mathlib.Core.List.{List, [], _∷_, List·Memᴰ, List·Memᴰ·head, List·
 use native.Mathlib.Nat.{not-suc-le-zero, le-of-suc-le-suc, eq-or-lt-of-le, le-step, le-refl}
 use lib.Dec.{leb, ltb, eqb}
 use borrow.Author.Tests.{leb-true, ltb-true, eqb-true, le-leb, lt-ltb, eq-eqb}
-use Rattle.theory.specs.Lists.{Rising, NoRepeats, isMember}
+use Rattle.theory.specs.paper.Lists.{Rising, NoRepeats}
+use Rattle.theory.specs.Members.{isMember}
 
 infixl 35 _and-then_
 pub record Decides (test : Bool) (P : Type 0) : Type 0 where

@@ -7,10 +7,10 @@ use mathlib.Core.Logic.{_⊎_, inl, inr, ⊎-elim, Dec·not-not}
 use mathlib.Core.Bool.{Bool, true, not, _&&_, _||_}
 use mathlib.Core.List.{List, [], _∷_, List·Memᴰ, List·Memᴰ·head, List·Memᴰ·tail, List·Memᴰ·not-nil, List·Memᴰ·cases-cons}
 use lib.ListN.{length}
-use Rattle.theory.specs.Net.{Net}
-use Rattle.theory.specs.Sound.{Bounded}
-use Rattle.theory.specs.Lists.{Rising}
-use Rattle.theory.specs.Walk.{Cut}
+use Rattle.theory.specs.paper.Net.{Net}
+use Rattle.theory.specs.paper.Sound.{Bounded}
+use Rattle.theory.specs.paper.Lists.{Rising}
+use Rattle.theory.specs.paper.Walk.{Cut}
 use Rattle.theory.proofs.Tests.{Decides, decided, decides-as, decides-itself, _and-then_, decides-or, decides-not}
 use Rattle.theory.proofs.Members.{rising-tail, rising-above}
 use Rattle.theory.proofs.Walks.{met-node}

@@ -10,9 +10,9 @@ use mathlib.Core.Bool.{Bool, true, false, cond}
 use mathlib.Core.List.{List, map, List·Memᴰ}
 use lib.Dec.{leb}
 use borrow.Author.Tests.{le-leb, lt-leb}
-use Rattle.theory.specs.Net.{Net, Gate, Input}
-use Rattle.theory.specs.Values.{rowOf, resultAt, Values}
-use Rattle.theory.specs.Sound.{Ranked}
+use Rattle.theory.specs.paper.Net.{Net, Gate, Input}
+use Rattle.theory.specs.paper.Values.{rowOf, resultAt, Values}
+use Rattle.theory.specs.paper.Sound.{Ranked}
 use Rattle.theory.proofs.Ranks.{by-rank}
 use Rattle.theory.proofs.Picks.{map-agree}
 use Rattle.theory.proofs.Walks.{NodesFeed, input-or-gate}

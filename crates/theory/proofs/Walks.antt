@@ -7,10 +7,10 @@ use mathlib.Core.Path.{_≡_, refl, subst}
 use mathlib.Core.Logic.{_⊎_, inl, inr, ⊎-elim, Dec·not}
 use mathlib.Core.List.{List, [], List·Memᴰ, List·Memᴰ·not-nil}
 use lib.ListN.{length}
-use Rattle.theory.specs.Net.{Net, Gate, Input}
-use Rattle.theory.specs.Sound.{Bounded, Ranked}
-use Rattle.theory.specs.Walk.{Walked, Met, Behind, Loop, Cut, Cone}
-use Rattle.theory.specs.Evidence.{Outside}
+use Rattle.theory.specs.paper.Net.{Net, Gate, Input}
+use Rattle.theory.specs.paper.Sound.{Bounded, Ranked}
+use Rattle.theory.specs.paper.Walk.{Walked, Met, Behind, Loop, Cut, Cone}
+use Rattle.theory.specs.paper.Evidence.{Outside}
 use Rattle.theory.proofs.Tests.{decided}
 use Rattle.theory.proofs.Decisions.{decide-member}
 use Rattle.theory.proofs.DecideNet.{decides-gate}

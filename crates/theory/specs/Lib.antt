@@ -1,10 +1,3 @@
-pub mod Net
-pub mod Values
-pub mod Lists
-pub mod Walk
-pub mod Cover
-pub mod Evidence
-pub mod Lookup
-pub mod Sound
-pub mod Cases
-pub mod Drawings
+pub mod paper
+pub mod Members
+pub mod Lines

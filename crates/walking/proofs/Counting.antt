@@ -7,7 +7,7 @@ use mathlib.Core.Path.{_≡_, refl, ap}
 use mathlib.Core.Logic.{⊎-elim, Dec·not, Dec·not-not}
 use mathlib.Core.List.{List, [], _∷_, List·Memᴰ, List·Memᴰ·head, List·Memᴰ·tail, List·Memᴰ·not-nil, List·Memᴰ·cases-cons}
 use lib.ListN.{length}
-use Rattle.theory.specs.Lists.{NoRepeats}
+use Rattle.theory.specs.paper.Lists.{NoRepeats}
 use Rattle.theory.proofs.Members.{no-longer}
 use Rattle.theory.proofs.Decisions.{decide-both, decide-member, decide-some-below}
 

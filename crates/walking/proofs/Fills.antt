@@ -10,7 +10,7 @@ use Rattle.storage.specs.Entries.{cleared, Beyond}
 use Rattle.storage.specs.Marks.{Marks}
 use Rattle.storage.proofs.Clears.{filled, filled-size, filled-low, filled-high, filled-beyond, cleared-size, cleared-low, cleared-beyond, beyond-same}
 use Rattle.storage.proofs.Drawings.{drawn-span}
-use Rattle.theory.specs.Lists.{NoRepeats}
+use Rattle.theory.specs.paper.Lists.{NoRepeats}
 use Rattle.walking.specs.Gathering.{Settled, Listing, Kept}
 use Rattle.walking.specs.Promises.{OrderRoom}
 

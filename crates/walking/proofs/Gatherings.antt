@@ -18,7 +18,7 @@ use Rattle.storage.proofs.Entries.{member-more, member-last, no-repeats-more, i
 use Rattle.storage.proofs.Clears.{beyond-same, beyond-then}
 use Rattle.storage.proofs.Drawings.{fanins-in, fed-in}
 use Rattle.storage.proofs.InMarks.{marks-more}
-use Rattle.theory.specs.Lists.{NoRepeats}
+use Rattle.theory.specs.paper.Lists.{NoRepeats}
 use Rattle.theory.proofs.Decisions.{decide-member}
 use Rattle.walking.specs.Sweeps.{turn}
 use Rattle.walking.specs.Gathering.{AllMarked, AddRoom, Added, Settled, Listing, Kept, Listed, noted}

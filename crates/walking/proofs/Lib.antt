@@ -1,7 +1,7 @@
 pub mod Counting
 pub mod Placing
 pub mod Orders
-pub mod Tests
+pub mod Rises
 pub mod Gatherings
 pub mod Fills
 pub mod SweepLoops

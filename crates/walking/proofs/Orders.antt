@@ -15,10 +15,10 @@ use Rattle.storage.specs.Drawings.{netIn, Drawn, Ordered}
 use Rattle.storage.proofs.Entries.{place-of, member-at, one-place}
 use Rattle.storage.proofs.Drawings.{fanins-out}
 use Rattle.storage.specs.Lists.{Place}
-use Rattle.theory.specs.Net.{Net, Gate, Input}
-use Rattle.theory.specs.Lists.{NoRepeats}
-use Rattle.theory.specs.Sound.{Bounded, Ranked}
-use Rattle.theory.specs.Walk.{Walked, Loop}
+use Rattle.theory.specs.paper.Net.{Net, Gate, Input}
+use Rattle.theory.specs.paper.Lists.{NoRepeats}
+use Rattle.theory.specs.paper.Sound.{Bounded, Ranked}
+use Rattle.theory.specs.paper.Walk.{Walked, Loop}
 use Rattle.theory.proofs.Walks.{input-or-gate, reader-is-gate}
 use Rattle.walking.specs.Sweeps.{swept, sweptTimes, orderOf}
 use Rattle.walking.proofs.Counting.{at-most-gates, all-listed, one-missing}

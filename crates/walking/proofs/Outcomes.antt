@@ -9,8 +9,7 @@ use Rattle.storage.specs.Drawings.{netIn, Drawn, Ordered}
 use Rattle.storage.specs.Entries.{cleared, Beyond}
 use Rattle.storage.proofs.Clears.{cleared-used, beyond-then}
 use Rattle.storage.proofs.Drawings.{drawn-span}
-use Rattle.theory.specs.Net.{Gate}
-use Rattle.theory.specs.Walk.{Loop}
+use Rattle.theory.specs.paper.Walk.{NoLoop}
 use Rattle.theory.proofs.Walks.{no-loop}
 use Rattle.walking.specs.declared.Ordering.{Ordering}
 use Rattle.walking.specs.declared.Ordering.the-variants.{Whole}
@@ -61,7 +60,7 @@ module _ {inputs nodes : ℕ} {fanins order₀ marks₀ : List ℕ} (room : Orde
       zeros : {r : Ordering} → LoopRuling (netIn inputs nodes fanins) r → order₄ ≡ entriesOf (netIn inputs nodes fanins) r ++ drop (nodes - inputs) order₀
       zeros (LoopRuling.none loops) =
           absurd (short (omega (arith, order-whole (room .drawn .bounded) loops .size, placed-size)))
-      zeros (LoopRuling.lowest gate loop none) =
+      zeros (LoopRuling.lowest loop) =
           clear ∙ cleared-used (nodes - inputs) (beyond-then (listed .kept .list-rest) (found .kept .list-rest))
 
 -- the order, as the first entries of the array
@@ -71,7 +70,7 @@ module _ {inputs nodes k : ℕ} {fanins order₀ marks₀ order marks : List ℕ
   unfolding netIn
   order-taken = subst (Ordered (netIn inputs nodes fanins)) (sym first) ordered
     where
-      none : LoopRuling (netIn inputs nodes fanins) Whole → (g : ℕ) → Gate (netIn inputs nodes fanins) g → Loop (netIn inputs nodes fanins) g → ⊥
+      none : LoopRuling (netIn inputs nodes fanins) Whole → NoLoop (netIn inputs nodes fanins)
       none (LoopRuling.none loops) = loops
 
       ordered : Ordered (netIn inputs nodes fanins) (orderOf (netIn inputs nodes fanins))

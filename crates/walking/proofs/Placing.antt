@@ -12,8 +12,9 @@ use lib.Seq.{getD-append-seam}
 use lib.Dec.{ltb}
 use borrow.Author.Tests.{lt-ltb, le-ltb}
 use Rattle.storage.proofs.Entries.{place-of, member-more, no-repeats-more, is-member, no-member}
-use Rattle.theory.specs.Net.{Net, Gate}
-use Rattle.theory.specs.Lists.{NoRepeats, isMember}
+use Rattle.theory.specs.paper.Net.{Net, Gate}
+use Rattle.theory.specs.paper.Lists.{NoRepeats}
+use Rattle.theory.specs.Members.{isMember}
 use Rattle.theory.proofs.Decisions.{decide-member}
 use Rattle.walking.specs.Sweeps.{ready, turn, turnsFrom, swept, sweptTimes, orderOf}
 use Rattle.walking.specs.Gathering.{Settled}

@@ -17,7 +17,7 @@ use Rattle.storage.specs.Marks.{Tells}
 use Rattle.storage.specs.Lists.{listAt}
 use Rattle.storage.proofs.Entries.{member-more, member-last, is-member, no-member, member-of-part, part-place}
 use Rattle.storage.proofs.Drawings.{fanins-in}
-use Rattle.theory.specs.Walk.{Walked, Behind, Loop}
+use Rattle.theory.specs.paper.Walk.{Walked, Behind, Loop}
 use Rattle.theory.proofs.Walks.{behind-on}
 use Rattle.theory.proofs.Decisions.{decide-member}
 use Rattle.walking.specs.Gathering.{Settled, Listing, Kept, Listed, Added, noted, notedAll}
@@ -272,6 +272,11 @@ module _ {inputs nodes : ℕ} {fanins list₀ marks₀ list marks : List ℕ} {v
     lowest-found found =
         record {
           reply =
-              LoopRuling.lowest (record { above = left .low; below = node }) (searched .reply .yes found) (λ h gate less. left .none h (gate .above) less);
+              LoopRuling.lowest
+              (record {
+                gate = record { above = left .low; below = node };
+                loop = searched .reply .yes found;
+                lowest = λ h less gate. left .none h (gate .above) less;
+              });
           kept = kept-on (left .kept) (searched .kept);
         }

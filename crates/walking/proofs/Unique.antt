@@ -9,23 +9,30 @@ use lib.ListN.{drop}
 use Rattle.storage.proofs.Clears.{agree}
 use Rattle.storage.proofs.InRoles.{walked-at, met-at, role-one}
 use Rattle.storage.proofs.InMarks.{tells-one, marks-inside}
-use Rattle.theory.specs.Net.{Net}
+use Rattle.theory.specs.paper.Net.{Net}
+use Rattle.theory.specs.paper.Walk.{LowestLoop, NoLoop}
 use Rattle.walking.specs.declared.Ordering.{Ordering}
 use Rattle.walking.specs.declared.Ordering.the-variants.{LoopAt}
 use Rattle.walking.specs.Promises.{LoopRuling, OrderMade, entriesOf, WalkMade, CutRuled}
 
+-- one lowest gate on a loop
+pub lowest-one : {net : Net} {g h : ℕ} → LowestLoop net g → LowestLoop net h → g ≡ h
+lowest-one {g = g} {h = h} a b = same (decLt g h) (decLt h g)
+  where
+    same : Dec (g < h) → Dec (h < g) → g ≡ h
+    same (yes low) other = absurd (b .lowest g low (a .gate) (a .loop))
+    same (no high) (yes low) = absurd (a .lowest h low (b .gate) (b .loop))
+    same (no high) (no low) = omega arith
+
+pub some-loop : {net : Net} {g : ℕ} → NoLoop net → LowestLoop net g → ⊥
+some-loop {g = g} none a = none g (a .gate) (a .loop)
+
 -- one ruling on loops
 pub ruling-one : {net : Net} {r s : Ordering} → LoopRuling net r → LoopRuling net s → r ≡ s
 ruling-one (LoopRuling.none a) (LoopRuling.none b) = refl
-ruling-one (LoopRuling.none a) (LoopRuling.lowest {g = g} gate loop less) = absurd (a g gate loop)
-ruling-one (LoopRuling.lowest {g = g} gate loop less) (LoopRuling.none b) = absurd (b g gate loop)
-ruling-one (LoopRuling.lowest {g = g} gate loop less) (LoopRuling.lowest {g = h} gate′ loop′ less′) =
-    ap (λ (i : ℕ). LoopAt (record { id = i })) (same (decLt g h) (decLt h g))
-  where
-    same : Dec (g < h) → Dec (h < g) → g ≡ h
-    same (yes low) other = absurd (less′ g gate low loop)
-    same (no high) (yes low) = absurd (less h gate′ low loop′)
-    same (no high) (no low) = omega arith
+ruling-one (LoopRuling.none a) (LoopRuling.lowest b) = absurd (some-loop a b)
+ruling-one (LoopRuling.lowest a) (LoopRuling.none b) = absurd (some-loop b a)
+ruling-one (LoopRuling.lowest a) (LoopRuling.lowest b) = ap (λ (i : ℕ). LoopAt (record { id = i })) (lowest-one a b)
 
 pub order-one : {net : Net} {order₀ marks₀ : List ℕ} {r s : Ordering} {order marks order′ marks′ : List ℕ} →
     OrderMade net order₀ marks₀ r order marks → OrderMade net order₀ marks₀ s order′ marks′ → (r ≡ s) × (order ≡ order′) × (marks ≡ marks′)

@@ -14,8 +14,8 @@ use Rattle.storage.proofs.Clears.{cleared-size, cleared-low, cleared-beyond, be
 use Rattle.storage.proofs.Drawings.{fanins-in, fed-in}
 use Rattle.storage.proofs.Entries.{member-at}
 use Rattle.storage.proofs.InRoles.{walked-at, met-at}
-use Rattle.theory.specs.Lists.{Rising}
-use Rattle.theory.specs.Walk.{Walked, Cut}
+use Rattle.theory.specs.paper.Lists.{Rising}
+use Rattle.theory.specs.paper.Walk.{Walked, Cut}
 use Rattle.theory.proofs.Walks.{met-node}
 use Rattle.walking.specs.Walking.{Turned, TurnRoom}
 use Rattle.walking.specs.Promises.{WalkRoom, WalkMade}

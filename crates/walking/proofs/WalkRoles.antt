@@ -15,8 +15,8 @@ use Rattle.storage.proofs.Clears.{beyond-same, beyond-then}
 use Rattle.storage.proofs.Entries.{is-member, no-member}
 use Rattle.storage.proofs.Views.{view-set}
 use Rattle.storage.proofs.InRoles.{walked-at, walked-bit, walked-or}
-use Rattle.theory.specs.Lists.{isMember}
-use Rattle.theory.specs.Values.{bit}
+use Rattle.theory.specs.Members.{isMember}
+use Rattle.theory.specs.paper.Values.{bit}
 use Rattle.walking.specs.Walking.{meetOne, meetAll, markOne, markOpen}
 
 -- What a node that is met becomes

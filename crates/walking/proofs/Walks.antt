@@ -16,9 +16,9 @@ use Rattle.storage.proofs.Clears.{beyond-then}
 use Rattle.storage.proofs.Views.{view-size}
 use Rattle.storage.proofs.Entries.{place-of, member-at, one-place, is-member, no-member}
 use Rattle.storage.proofs.InRoles.{walked-bit, met-bit}
-use Rattle.theory.specs.Net.{Net, Gate}
-use Rattle.theory.specs.Sound.{Bounded}
-use Rattle.theory.specs.Walk.{Walked, Met}
+use Rattle.theory.specs.paper.Net.{Net, Gate}
+use Rattle.theory.specs.paper.Sound.{Bounded}
+use Rattle.theory.specs.paper.Walk.{Walked, Met}
 use Rattle.theory.proofs.Walks.{reader-is-gate, walked-node}
 use Rattle.theory.proofs.Decisions.{decide-member}
 use Rattle.walking.specs.Walking.{meetOne, meetAll, markOne, markOpen, Turned}

@@ -9,7 +9,8 @@ use lib.Dec.{ltb}
 use Rattle.storage.specs.Drawings.{Drawn}
 use Rattle.storage.specs.Entries.{Beyond}
 use Rattle.storage.specs.Marks.{Marks}
-use Rattle.theory.specs.Lists.{NoRepeats, isMember}
+use Rattle.theory.specs.paper.Lists.{NoRepeats}
+use Rattle.theory.specs.Members.{isMember}
 
 abbrev pub AllMarked : (us marks : List ℕ) → Type 0
 AllMarked us marks = (u : ℕ) → List·Memᴰ u us → getD marks u 0 ≡ 1

@@ -1,3 +1,4 @@
+pub mod paper
 pub mod Sweeps
 pub mod Gathering
 pub mod Walking

@@ -4,20 +4,21 @@ use mathlib.Core.Path.{_≡_}
 use mathlib.Core.Bool.{Bool}
 use mathlib.Core.List.{List, _++_}
 use lib.ListN.{length, getD, drop, replicate}
+use Rattle.storage.specs.declared.Node.{Node}
 use Rattle.storage.specs.Drawings.{Drawn, Arranged}
 use Rattle.storage.specs.Entries.{cleared, Beyond}
 use Rattle.storage.specs.Marks.{Marks, Tells}
 use Rattle.storage.specs.Roles.{walkedIn, metIn}
-use Rattle.theory.specs.Net.{Net, Gate}
-use Rattle.theory.specs.Walk.{Walked, Met, Loop, Cut}
+use Rattle.theory.specs.paper.Net.{Net}
+use Rattle.theory.specs.paper.Walk.{Walked, Met, LowestLoop, NoLoop, Cut}
 use Rattle.walking.specs.declared.Ordering.{Ordering}
 use Rattle.walking.specs.declared.Ordering.the-variants.{Whole, LoopAt}
 use Rattle.walking.specs.Sweeps.{orderOf}
 
 -- "7 Loop: some gate reaches itself along fanins; lowest such gate"
 pub data LoopRuling (net : Net) : Ordering → Type 0 where
-  none : ((g : ℕ) → Gate net g → Loop net g → ⊥) → LoopRuling net Whole
-  lowest : {g : ℕ} → Gate net g → Loop net g → ((h : ℕ) → Gate net h → h < g → Loop net h → ⊥) → LoopRuling net (LoopAt (record { id = g }))
+  none : NoLoop net → LoopRuling net Whole
+  lowest : {g : Node} → LowestLoop net (g .id) → LoopRuling net (LoopAt g)
 
 -- The arrays hold a drawing (whatever its K), its ids fit 16 bits, and there is room for the order and for the marks.
 pub record OrderRoom (inputs nodes : ℕ) (fanins order marks : List ℕ) : Type 0 where

@@ -4,7 +4,7 @@ use mathlib.Core.Bool.{Bool}
 use mathlib.Core.List.{List}
 use Rattle.storage.specs.Drawings.{netIn}
 use Rattle.storage.specs.Marks.{Tells}
-use Rattle.theory.specs.Walk.{Loop}
+use Rattle.theory.specs.paper.Walk.{Loop}
 use Rattle.walking.specs.declared.Ordering.{Ordering}
 use Rattle.walking.specs.Gathering.{Kept}
 use Rattle.walking.specs.Promises.{LoopRuling}

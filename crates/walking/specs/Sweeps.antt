@@ -4,8 +4,8 @@ use Prim.Native.Nat.{ℕ, zero, suc, _-_}
 use mathlib.Core.Bool.{Bool, true, cond, _||_, _&&_}
 use mathlib.Core.List.{List, [], _∷_, _++_}
 use lib.Dec.{ltb}
-use Rattle.theory.specs.Net.{Net}
-use Rattle.theory.specs.Lists.{isMember}
+use Rattle.theory.specs.paper.Net.{Net}
+use Rattle.theory.specs.Members.{isMember}
 
 -- each of the nodes is an input or placed
 unfoldable pub ready : Net → (placed : List ℕ) → List ℕ → Bool

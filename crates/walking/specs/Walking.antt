@@ -6,7 +6,7 @@ use mathlib.Core.List.{List, [], _∷_}
 use lib.ListN.{length, getD, set}
 use Rattle.storage.specs.Roles.{walkedBit, walkedIn}
 use Rattle.storage.specs.Drawings.{Fed}
-use Rattle.theory.specs.Lists.{isMember}
+use Rattle.theory.specs.Members.{isMember}
 
 -- a node is met: a leaf is walked only if it was (the root may be one), any other node is walked too
 abbrev pub meetOne : (leaves roles : List ℕ) → ℕ → List ℕ

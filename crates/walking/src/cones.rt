@@ -1,12 +1,13 @@
 // The walk's turns, and the tests of a cut.
-use crate::roles::is_met;
-use crate::roles::is_walked;
 use storage::CutSize;
 use storage::Node;
 use storage::lists::entry_at;
+use storage::lists::node_at;
 use storage::lists::size_at;
 use storage::roles::BOTH;
 use storage::roles::MET;
+use storage::roles::is_met;
+use storage::roles::is_walked;
 ghost use mathlib.Core.Path.{_≡_};
 ghost use mathlib.Core.List.{List·Memᴰ};
 ghost use Prim.Native.Nat.{ℕ, _≤_, _<_};
@@ -14,7 +15,7 @@ ghost use lib.ListN.{length, getD, take};
 ghost use Rattle.storage.specs.Marks.{Tells};
 ghost use Rattle.storage.specs.Lists.{listAt};
 ghost use Rattle.storage.specs.Roles.{metIn};
-ghost use Rattle.theory.specs.Lists.{Rising};
+ghost use Rattle.theory.specs.paper.Lists.{Rising};
 ghost use Rattle.walking.specs.Walking.{meetOne, meetAll, Turned, TurnRoom};
 
 // Is the node among the leaves?
@@ -102,7 +103,7 @@ pub fn leaves_met(leaves: &[u16], size: CutSize, nodes: usize, roles: &[u8]) -> 
     let most = size.leaves as usize;
     let mut i = 0;
     while i < most {
-        let leaf = Node { id: leaves[i] };
+        let leaf = node_at(leaves, i);
         if nodes <= leaf.id as usize {
             return false;
         }

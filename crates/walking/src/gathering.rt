@@ -1,5 +1,6 @@
 // A list of gates that grows in an array with marks beside it.
 use storage::Node;
+use storage::lists::put_node;
 use storage::marks::is_marked;
 use storage::marks::mark;
 ghost use mathlib.Core.List.{[]};
@@ -13,7 +14,7 @@ pub fn add(list: &mut [u16], marks: &mut [u8], size: usize, node: Node) -> usize
     if is_marked(marks, node) {
         return size;
     }
-    list[size] = node.id;
+    put_node(list, size, node);
     mark(marks, node);
     size + 1
 }

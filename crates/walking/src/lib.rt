@@ -3,12 +3,12 @@ mod cones;
 mod gathering;
 mod loops;
 mod marking;
-pub mod roles;
 mod sweeping;
 
 use storage::CutSize;
 use storage::Node;
 use storage::Numbers;
+use storage::lists::node_at;
 use storage::roles::WALKED;
 ghost use lib.ListN.{take};
 ghost use Rattle.storage.specs.Drawings.{netIn};
@@ -69,8 +69,7 @@ pub fn walk(
     let mut i = nodes - inputs;
     while 0 < i {
         i -= 1;
-        let gate = Node { id: order[i] };
-        cones::pass(fanins, gate, leaves, size, roles);
+        cones::pass(fanins, node_at(order, i), leaves, size, roles);
     }
 }
 

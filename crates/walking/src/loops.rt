@@ -5,6 +5,7 @@ use crate::marking::start;
 use storage::Node;
 use storage::Numbers;
 use storage::lists::entry_at;
+use storage::lists::node_at;
 use storage::lists::size_at;
 use storage::marks::is_marked;
 ghost use Prim.Native.Nat.{_≤_, _<_};
@@ -56,7 +57,7 @@ fn reaches_itself(
     let mut size = note_fanins(numbers, fanins, list, marks, 0, gate);
     let mut done = 0;
     while done < size {
-        let next = Node { id: list[done] };
+        let next = node_at(list, done);
         size = note_fanins(numbers, fanins, list, marks, size, next);
         done += 1;
     }

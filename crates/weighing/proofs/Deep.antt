@@ -14,9 +14,9 @@ use Rattle.storage.specs.Lists.{sizeAt, listAt}
 use Rattle.storage.specs.Drawings.{netIn}
 use Rattle.storage.proofs.Clears.{cleared-low, cleared-size, cleared-beyond, cleared-used, beyond-same, beyond-then}
 use Rattle.storage.proofs.Drawings.{fanins-in, gate-of, gate-above, gate-below}
-use Rattle.theory.specs.Net.{Net, Gate}
-use Rattle.theory.specs.Lists.{greatest}
-use Rattle.theory.specs.Cover.{Luts, Wanted, Depth, Depths}
+use Rattle.theory.specs.paper.Net.{Net, Gate}
+use Rattle.theory.specs.paper.Lists.{greatest}
+use Rattle.theory.specs.paper.Cover.{Luts, Wanted, Depth, Depths}
 use Rattle.theory.proofs.Depths.{depths-are-one}
 use Rattle.theory.proofs.Members.{greatest-at-most}
 use Rattle.covering.specs.Covers.{isRoot, lutsIn, DepthAsked}
@@ -24,7 +24,7 @@ use Rattle.covering.proofs.Stores.{stored-or-kept}
 use Rattle.covering.proofs.Leaves.{leavesFrom, leaves-cut, leaves-room}
 use Rattle.covering.proofs.Orders.{order-gate, order-once, gate-place, fanin-before}
 use Rattle.covering.proofs.Covered.{root-marked}
-use Rattle.sheet.specs.Rules.{CoverKept}
+use Rattle.sheet.specs.paper.Rules.{CoverKept}
 use Rattle.weighing.specs.declared.whole.WholeJudged.{WholeJudged}
 use Rattle.weighing.specs.declared.whole.WholeJudged.the-variants as judged
 use Rattle.weighing.specs.PassFour.{CoverRuled, WholeRuled, WholeAsked, WholeAnswered, CoverAsked, CoverTold, deepest, DepthFits, DepthSet, DepthsAsked, DepthsFound, DeepAsked, DeepTold}

@@ -14,10 +14,10 @@ use Rattle.storage.specs.Drawings.{netIn, tablesIn}
 use Rattle.storage.proofs.Entries.{false-not-true}
 use Rattle.storage.proofs.Clears.{cleared-beyond, cleared-used, beyond-same, beyond-then}
 use Rattle.storage.proofs.Drawings.{fanins-in, drawn-span, gate-of}
-use Rattle.theory.specs.Net.{Net}
-use Rattle.theory.specs.Walk.{Cut}
-use Rattle.theory.specs.Cover.{Luts}
-use Rattle.theory.specs.Lookup.{ConeTable}
+use Rattle.theory.specs.paper.Net.{Net}
+use Rattle.theory.specs.paper.Walk.{Cut}
+use Rattle.theory.specs.paper.Cover.{Luts}
+use Rattle.theory.specs.paper.Lookup.{ConeTable}
 use Rattle.theory.proofs.Cones.{cone-table-only}
 use Rattle.walking.specs.Promises.{WalkRoom, CutRuled}
 use Rattle.walking.proofs.Orders.{drawn-ranked}

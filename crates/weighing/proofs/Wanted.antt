@@ -17,12 +17,12 @@ use Rattle.storage.proofs.Entries.{member-of-part, part-place}
 use Rattle.storage.proofs.Clears.{cleared-low, cleared-beyond, cleared-used, beyond-same, beyond-then}
 use Rattle.storage.proofs.InLists.{list-member}
 use Rattle.storage.proofs.Drawings.{fanins-in, gate-of, gate-above, gate-below}
-use Rattle.theory.specs.Net.{Gate}
-use Rattle.theory.specs.Cover.{Luts, Wanted}
+use Rattle.theory.specs.paper.Net.{Gate}
+use Rattle.theory.specs.paper.Cover.{Luts, Wanted}
 use Rattle.covering.specs.Covers.{lutsIn, GatesFit, GateAmong, GatesMarked, MarksFit}
 use Rattle.covering.proofs.Marking.{marked-beyond}
 use Rattle.covering.proofs.Covered.{root-marked, marked-root}
-use Rattle.sheet.specs.Rules.{CoverKept}
+use Rattle.sheet.specs.paper.Rules.{CoverKept}
 use Rattle.weighing.specs.declared.whole.WholeJudged.{WholeJudged}
 use Rattle.weighing.specs.PassFour.{CoverRuled, LeavesFit, LeavesWanted, CoverAsked, GateWanted, WantedMarked, Compared, CoverTold}
 

@@ -8,11 +8,11 @@ use Rattle.storage.specs.Entries.{cleared, Beyond}
 use Rattle.storage.specs.Marks.{Marks}
 use Rattle.storage.specs.Lists.{sizeAt, listAt}
 use Rattle.storage.specs.Drawings.{netIn}
-use Rattle.theory.specs.Net.{Net, Gate}
-use Rattle.theory.specs.Lists.{greatest}
-use Rattle.theory.specs.Cover.{Luts, Wanted, Depth, Depths}
+use Rattle.theory.specs.paper.Net.{Net, Gate}
+use Rattle.theory.specs.paper.Lists.{greatest}
+use Rattle.theory.specs.paper.Cover.{Luts, Wanted, Depth, Depths}
 use Rattle.covering.specs.Covers.{Chosen, isRoot, lutsIn, GatesFit, GatesMarked, MarksFit}
-use Rattle.sheet.specs.Rules.{CoverKept, DepthKept}
+use Rattle.sheet.specs.paper.Rules.{CoverKept, DepthKept}
 use Rattle.weighing.specs.declared.whole.WholeJudged.{WholeJudged}
 use Rattle.weighing.specs.declared.whole.WholeJudged.the-variants as judged
 

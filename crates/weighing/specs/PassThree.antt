@@ -8,10 +8,10 @@ use Rattle.storage.specs.Entries.{cleared, Beyond}
 use Rattle.storage.specs.Marks.{Tells}
 use Rattle.storage.specs.Lists.{sizeAt, listAt}
 use Rattle.storage.specs.Drawings.{netIn, tablesIn, Arranged}
-use Rattle.theory.specs.Net.{Net, Gate}
-use Rattle.theory.specs.Walk.{Cut}
-use Rattle.theory.specs.Cover.{Luts}
-use Rattle.theory.specs.Lookup.{ConeTable}
+use Rattle.theory.specs.paper.Net.{Net, Gate}
+use Rattle.theory.specs.paper.Walk.{Cut}
+use Rattle.theory.specs.paper.Cover.{Luts}
+use Rattle.theory.specs.paper.Lookup.{ConeTable}
 use Rattle.covering.specs.Covers.{lutsIn}
 use Rattle.weighing.specs.declared.luts.LutsJudged.{LutsJudged}
 use Rattle.weighing.specs.declared.luts.LutsJudged.the-variants as judged
@@ -34,7 +34,7 @@ module _ (net : Net) (tables : ℕ → ℕ) (k : ℕ) (luts : Luts) (table : ℕ
     function : {r : ℕ} → luts .root r ≡ true → KeptBelow r → Cut net k r (luts .leaves r) →
         (ConeTable net tables (luts .leaves r) r (table r) → ⊥) → LutsRuled (judged.Function (record { id = r }))
 
-  -- the same at one node
+  -- what is said of one node: where it is a root, whether its LUT keeps 25, then 29
   pub data NodeRuled (r : ℕ) : LutsJudged → Type 0 where
     kept : (luts .root r ≡ true → LutKept net tables k luts table r) → NodeRuled r judged.Kept
     cut : luts .root r ≡ true → (Cut net k r (luts .leaves r) → ⊥) → NodeRuled r (judged.Cut (record { id = r }))

@@ -5,7 +5,10 @@ use storage::Label;
 use storage::Node;
 use storage::Numbers;
 use storage::lists::PLACES;
+use storage::lists::node_at;
 use storage::lists::size_at;
+use storage::marks::above;
+use storage::marks::put_label;
 ghost use mathlib.Core.Path.{_≡_};
 ghost use lib.ListN.{length, take};
 ghost use Rattle.storage.specs.Marks.{Tells};
@@ -66,7 +69,7 @@ fn first_uncovered(numbers: Numbers, luts: &[u8], wanted: &[u8]) -> WholeJudged
     WholeJudged::Kept
 }
 
-// 28.
+// 28: is each gate that an output or a LUT wants a root, and no other gate? Names the lowest for which it does not hold.
 fn judge_wanted(
     numbers: Numbers,
     luts: &[u8],
@@ -94,7 +97,7 @@ fn set_depth(luts: &[u8], cuts: &[u16], node: Node, depths: &mut [u16])
     if luts[v] == 1 {
         let at = PLACES * v + 1;
         let deepest = depth(depths, &cuts[at..], size_at(cuts, node));
-        depths[v] = deepest.depth + 1;
+        put_label(depths, node, above(deepest));
     }
 }
 
@@ -109,7 +112,7 @@ fn find_depths(numbers: Numbers, order: &[u16], luts: &[u8], cuts: &[u16], depth
     let gates = nodes - inputs;
     let mut i = 0;
     while i < gates {
-        set_depth(luts, cuts, Node { id: order[i] }, depths);
+        set_depth(luts, cuts, node_at(order, i), depths);
         i += 1;
     }
 }

@@ -2,7 +2,7 @@
 use mathlib.Core.Path.{_≡_, refl}
 use mathlib.Core.List.{[], _∷_, _++_}
 use lib.ListN.{replicate}
-use Rattle.wording.specs.Text.{Mapping, bytes, digit, digits, placesWithin, places, decimal, hex16, numbered, refusedLine, acceptedLine}
+use Rattle.wording.specs.paper.Text.{Mapping, bytes, digit, digits, placesWithin, places, decimal, hex16, numbered, refusedLine, acceptedLine}
 use Rattle.wording.specs.Arrays.{arraysOf, mappingIn, lutAt, outputAt, markedFrom}
 
 -- "P1. K=3, I=4; 4=AND(0,1), 5=AND(2,3), 6=OR(4,5); output 6."

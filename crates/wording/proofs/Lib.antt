@@ -3,3 +3,4 @@ pub mod Puts
 pub mod Numbers
 pub mod Rooms
 pub mod Listed
+pub mod Filled

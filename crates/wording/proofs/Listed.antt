@@ -7,7 +7,7 @@ use native.Mathlib.Omega.{arith}
 use borrow.Author.Tests.{eq-eqb, ne-eqb}
 use lib.ListN.{length, getD, take, drop, length-take, drop-of-length-le}
 use lib.Seq.{length-take-le, getD-take}
-use Rattle.wording.specs.Text.{each, headLine, lutLine, outputLine, listingOf}
+use Rattle.wording.specs.paper.Text.{each, headLine, lutLine, outputLine, listingOf}
 use Rattle.wording.specs.Puts.{Put}
 use Rattle.storage.specs.Lists.{sizeAt}
 use Rattle.wording.specs.Arrays.{Arrays, lutAt, outputAt, lutsIn, outputsIn, mappingIn, lutText, outputText, marked, markedFrom}

@@ -10,7 +10,7 @@ use borrow.Author.Tests.{lt-ltb, le-ltb, ltb-true, ltb-false}
 use lib.Dec.{ltb}
 use lib.ListN.{length, set, length-append}
 use lib.Seq.{sets}
-use Rattle.wording.specs.Text.{digit, digits, placesWithin, places, decimal, hex16}
+use Rattle.wording.specs.paper.Text.{digit, digits, placesWithin, places, decimal, hex16}
 use Rattle.wording.proofs.Puts.{sets-before}
 
 pub digits-size : (base count n : ℕ) → length (digits base count n) ≡ count

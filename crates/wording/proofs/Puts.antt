@@ -8,7 +8,8 @@ use native.Mathlib.Omega.{arith}
 use lib.ListN.{length, getD, set, drop, length-append}
 use lib.Seq.{sets, length-sets, sets-eq, set-comm, drop-cons}
 use Rattle.storage.proofs.Stores.{sets-append}
-use Rattle.wording.specs.Puts.{Put, Wrote}
+use Rattle.wording.specs.paper.Puts.{Wrote}
+use Rattle.wording.specs.Puts.{Put}
 
 -- a store behind a run can come before it
 pub sets-before : (l : List ℕ) (i : ℕ) (xs : List ℕ) (b : ℕ) → sets (set l (i + length xs) b) i xs ≡ sets l i (xs ++ (b ∷ []))

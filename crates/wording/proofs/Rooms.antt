@@ -9,9 +9,10 @@ use borrow.Author.Tests.{eqb-true}
 use lib.Dec.{eqb}
 use lib.ListN.{length, getD, take, drop, length-append, length-take}
 use lib.Seq.{getD-take, getD-drop}
-use Rattle.wording.specs.Text.{bytes, decimal, numbered, each, leafText, headLine, lutLine, outputLine, refusedLine, acceptedLine}
+use Rattle.wording.specs.paper.Text.{bytes, decimal, numbered, each, leafText, headLine, lutLine, outputLine, refusedLine, acceptedLine}
 use Rattle.storage.specs.Lists.{sizeAt}
-use Rattle.wording.specs.Arrays.{Arrays, lutAt, outputAt, lutText, outputText, markedFrom, Held, room}
+use Rattle.wording.specs.paper.Rooms.{room}
+use Rattle.wording.specs.Arrays.{Arrays, lutAt, outputAt, lutText, outputText, markedFrom, Held}
 use Rattle.wording.proofs.Numbers.{places-most, decimal-size, hex16-size}
 
 -- a word with a number of at most k digits

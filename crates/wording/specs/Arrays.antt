@@ -1,4 +1,4 @@
--- The mapping that arrays hold, and how much room its text may take.
+-- The mapping that arrays hold, and the room for its lines.
 use Prim.Native.Nat.{ℕ, suc, _+_, _*_, _-_, _≤_, _<_}
 use mathlib.Core.Path.{_≡_}
 use mathlib.Core.Bool.{cond}
@@ -6,7 +6,7 @@ use mathlib.Core.List.{List, [], _∷_, _++_, map}
 use lib.ListN.{length, getD, take}
 use lib.Dec.{eqb}
 use Rattle.storage.specs.Lists.{sizeAt, listAt}
-use Rattle.wording.specs.Text.{Lut, Output, Mapping, lutLine, outputLine}
+use Rattle.wording.specs.paper.Text.{Lut, Output, Mapping, lutLine, outputLine}
 
 -- One place a node for its label, its mark and its table, and a list of leaves; and the outputs in file order.
 pub record Arrays : Type 0 where
@@ -52,26 +52,8 @@ mappingIn k inputs nodes a number depth =
 abbrev pub mostLeaves : ℕ
 mostLeaves = 6
 
--- The longest lines: a head's numbers have 3, 20, 20, 20 and 5 digits, ids and depths 5.
-abbrev pub headRoom : ℕ
-headRoom = 99
-
-abbrev pub lutRoom : ℕ
-lutRoom = 88
-
-abbrev pub outputRoom : ℕ
-outputRoom = 25
-
--- the one line of a refusal, in two numbers of 20 digits, and of a sheet that is taken
-abbrev pub lineRoom : ℕ
-lineRoom = 53
-
 abbrev pub acceptedRoom : ℕ
 acceptedRoom = 21
-
--- room for every listing of so many nodes and outputs
-abbrev pub room : (nodes number : ℕ) → ℕ
-room nodes number = headRoom + lutRoom * nodes + outputRoom * number
 
 -- The arrays hold a mapping of so many nodes and outputs: ids fit their places, and each part of each array is there.
 pub record Held (inputs nodes : ℕ) (a : Arrays) (number : ℕ) : Type 0 where

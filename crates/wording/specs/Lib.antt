@@ -1,3 +1,3 @@
-pub mod Text
+pub mod paper
 pub mod Puts
 pub mod Arrays

@@ -12,9 +12,10 @@ use storage::Numbers;
 ghost use mathlib.Core.Path.{_≡_};
 ghost use Prim.Native.Nat.{_≤_};
 ghost use lib.ListN.{length};
-ghost use Rattle.wording.specs.Text.{listingOf, refusedLine, acceptedLine};
-ghost use Rattle.wording.specs.Puts.{Wrote};
-ghost use Rattle.wording.specs.Arrays.{arraysOf, mappingIn, lutsIn, Held, room, lineRoom, acceptedRoom};
+ghost use Rattle.wording.specs.paper.Text.{listingOf, refusedLine, acceptedLine};
+ghost use Rattle.wording.specs.paper.Puts.{Wrote};
+ghost use Rattle.wording.specs.paper.Rooms.{room, lineRoom};
+ghost use Rattle.wording.specs.Arrays.{arraysOf, mappingIn, lutsIn, Held, acceptedRoom};
 
 // The lister's text of the mapping that the arrays hold: a LUT for each node with the mark 1, `many` of them, and the outputs in file order.
 pub fn list_mapping(

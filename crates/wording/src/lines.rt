@@ -12,7 +12,7 @@ use storage::marks::label_of;
 ghost use mathlib.Core.Path.{_≡_};
 ghost use Prim.Native.Nat.{ℕ, _+_, _≤_, _<_};
 ghost use lib.ListN.{length, getD, take};
-ghost use Rattle.wording.specs.Text.{each, headLine, leafText, lutLine, outputLine};
+ghost use Rattle.wording.specs.paper.Text.{each, headLine, leafText, lutLine, outputLine};
 ghost use Rattle.wording.specs.Puts.{Put};
 ghost use Rattle.wording.specs.Arrays.{marked, markedFrom, lutText, outputText, LutHeld};
 

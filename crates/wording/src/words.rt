@@ -2,7 +2,7 @@
 ghost use mathlib.Core.Path.{_≡_};
 ghost use Prim.Native.Nat.{_+_, _<_, _≤_};
 ghost use lib.ListN.{length};
-ghost use Rattle.wording.specs.Text.{newline, digit, digits, places, decimal, hex16, numbered};
+ghost use Rattle.wording.specs.paper.Text.{newline, digit, digits, places, decimal, hex16, numbered};
 ghost use Rattle.wording.specs.Puts.{Put};
 
 pub fn put_word(word: &[u8], text: &mut [u8], at: usize) -> usize

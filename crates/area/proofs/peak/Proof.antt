@@ -6,11 +6,11 @@ use mathlib.Core.Path.{_≡_, refl, ap, _∙_}
 use mathlib.Core.List.{map}
 use lib.ListN.{length, take, drop}
 use denote.Ref.{now}
-use Rattle.theory.specs.Lists.{greatest}
+use Rattle.theory.specs.paper.Lists.{greatest}
 use Rattle.storage.specs.Lists.{sizeAt}
 use Rattle.storage.proofs.InLists.{list-member}
 use Rattle.area.specs.Area.{labelIn}
-use Rattle.area.proofs.Parts.{peak-more, peak-in}
+use Rattle.area.proofs.Peaks.{peak-more, peak-in}
 use Rattle.area.proofs.peak.Statement.{statement}
 use Rattle.area.proofs.peak.Tie as tie
 

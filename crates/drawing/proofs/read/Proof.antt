@@ -4,10 +4,10 @@ use mathlib.Core.Path.{ap, sym, _∙_}
 use lib.ListN.{length}
 use denote.Ref.{now}
 use borrow.Author.Tests.{le-leb, lt-leb}
-use Rattle.drawing.specs.Limits.{mostNodes, mostOutputs, mostPlaces}
+use Rattle.drawing.specs.paper.Limits.{mostNodes, mostOutputs}
 use Rattle.drawing.specs.declared.TableForm.{TableForm}
-use Rattle.drawing.specs.Fields.{headRuling, headVerdict}
-use Rattle.drawing.specs.Reading.{arraysOf}
+use Rattle.drawing.specs.paper.Fields.{headRuling, headVerdict}
+use Rattle.drawing.specs.Reading.{arraysOf, mostPlaces}
 use Rattle.drawing.proofs.SoundFields.{formed-of}
 use Rattle.drawing.proofs.Wholes.{enough-long, reads-short, reads-no-head}
 use borrow.Author.Needs.{needs}

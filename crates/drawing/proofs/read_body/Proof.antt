@@ -3,7 +3,7 @@ use native.Mathlib.Omega.{arith}
 use mathlib.Core.Path.{ap}
 use denote.Ref.{now}
 use Rattle.storage.specs.declared.Numbers.{Numbers}
-use Rattle.drawing.specs.Forms.{gatesStart}
+use Rattle.drawing.specs.paper.Forms.{gatesStart}
 use Rattle.drawing.specs.Reading.{arraysOf}
 use Rattle.drawing.proofs.SoundFields.{formed-of, head-sound}
 use Rattle.drawing.proofs.Wholes.{long-enough, as-headed, outputs-as-headed, reads-gates-refused}

@@ -5,8 +5,8 @@ use mathlib.Core.Path.{ap, _∙_}
 use lib.ListN.{getD}
 use denote.Ref.{now}
 use Rattle.drawing.specs.declared.TableForm.{TableForm}
-use Rattle.drawing.specs.Limits.{kAt}
-use Rattle.drawing.specs.Fields.{gatesIn}
+use Rattle.drawing.specs.paper.Limits.{frameSize}
+use Rattle.drawing.specs.paper.Fields.{gatesIn}
 use Rattle.drawing.proofs.SoundFields.{formed-of, head-sound}
 use Rattle.drawing.proofs.sound_head.Statement.{statement}
 use Rattle.drawing.proofs.sound_head.Tie as tie
@@ -40,7 +40,7 @@ returns c =
     let s = now (start .args .table) in
     let inputs = c .before .before .byte-at .ensures .byte in
     let gates = c .small-at .ensures .number ∙ ap (λ (form : TableForm). gatesIn form s) (start .pre .0) in
-    λ i. record { k = record { leaves = getD s kAt 0 }; inputs = inputs i; nodes = inputs i + gates i; roots = 0 }
+    λ i. record { k = record { leaves = getD s (frameSize + 1) 0 }; inputs = inputs i; nodes = inputs i + gates i; roots = 0 }
 
 pub sound-head-spec : {M : Type 1} → statement M
 sound-head-spec =

@@ -51,17 +51,16 @@ clear-requires c κs =
 same-length : tie.Need-same-length
 same-length c =
     let after-run = c .before .before .before .before .before .before .before .before in
-    let at-clear = c .before .before in
-    at-clear .clear .ensures .rest .size ∙ after-run .run .ensures .1 .size
+    c .before .before .clear .ensures .rest .size ∙ after-run .run .ensures .1 .size
 
 returns : tie.Need-returns
 returns c =
     let after-enum-told = c .before .before .before .before in
     let after-run = after-enum-told .before .before .before .before in
     let start = after-run .before .before .before .before .before .before .before .before .before .before in
-    let at-clear = c .before .before in
     answer-paths (start .pre) (after-run .run .ensures .1)
-    (ran-many (after-run .run .ensures .0) (after-enum-told .enum-told .given .1)) (at-clear .clear .ensures)
+    (ran-many (after-run .run .ensures .0) (after-enum-told .enum-told .given .1))
+    (c .before .before .clear .ensures)
 
 write-leaves-requires : tie.Need-write-leaves-requires
 write-leaves-requires c κs =
@@ -95,9 +94,8 @@ returns-2 c =
     let after-outcome = after-write-leaves .before .before .before .before in
     let after-run = after-outcome .before .before .before .before in
     let start = after-run .before .before .before .before .before .before .before .before .before .before in
-    let at-clear2 = c .before .before in
     let full = ran-full (after-run .run .ensures .0) (after-outcome .outcome .given .1) in
-    answer-cut (start .pre) (after-run .run .ensures .1) full (at-clear2 .clear2 .ensures)
+    answer-cut (start .pre) (after-run .run .ensures .1) full (c .before .before .clear2 .ensures)
     (after-write-leaves .write-leaves .ensures)
 
 pub find-spec : {M : Type 1} → statement M

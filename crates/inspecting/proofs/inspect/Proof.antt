@@ -2,7 +2,7 @@
 use native.Mathlib.Omega.{arith}
 use mathlib.Core.Path.{subst}
 use denote.Ref.{now}
-use Rattle.taking.specs.Judged.{Says}
+use Rattle.taking.specs.paper.Says.{Says}
 use Rattle.taking.proofs.Judged.{says, table-taken, never-short}
 use Rattle.inspecting.proofs.Taken.{says-refused, says-loop, table-laid, says-taken}
 use borrow.Author.Needs.{needs}

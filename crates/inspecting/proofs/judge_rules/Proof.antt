@@ -42,31 +42,29 @@ load-sheet-requires c κs =
       ),
     )
 
-slice-aggregate-judge-gates : tie.Need-slice-aggregate-judge-gates
-slice-aggregate-judge-gates c = search needs
+slice-aggregate-judge-lines : tie.Need-slice-aggregate-judge-lines
+slice-aggregate-judge-lines c = search needs
 
-slice-aggregate-judge-gates-2 : tie.Need-slice-aggregate-judge-gates-2
-slice-aggregate-judge-gates-2 c = search needs
+slice-aggregate-judge-lines-2 : tie.Need-slice-aggregate-judge-lines-2
+slice-aggregate-judge-lines-2 c = search needs
 
-slice-aggregate-judge-gates-3 : tie.Need-slice-aggregate-judge-gates-3
-slice-aggregate-judge-gates-3 c = search needs
+slice-aggregate-judge-lines-3 : tie.Need-slice-aggregate-judge-lines-3
+slice-aggregate-judge-lines-3 c = search needs
 
-slice-aggregate-judge-gates-4 : tie.Need-slice-aggregate-judge-gates-4
-slice-aggregate-judge-gates-4 c = search needs
-
-judge-gates-requires : tie.Need-judge-gates-requires
-judge-gates-requires c κs =
-    let after-load-sheet = c .before .before .before .before .before .before .before .before .before .before in
+judge-lines-requires : tie.Need-judge-lines-requires
+judge-lines-requires c κs =
+    let after-load-sheet = c .before .before .before .before .before .before .before .before .before in
     let after-terms-for = after-load-sheet .before .before .before .before .before .before .before in
     let after-shared-slice-known5 = after-terms-for .before in
     let start = after-shared-slice-known5 .before .before .before .before .before in
-    let most = start .pre .laid .most in
-    rw (after-terms-for .terms-for .ensures)
-    (judge-asked (start .pre) (λ i. omega (arith, after-shared-slice-known5 .shared-slice-known5 .given i))
-    (rw (after-terms-for .terms-for .ensures) at (after-load-sheet .load-sheet .ensures))
-    (record { labels = omega (arith, most); cuts = omega (arith, most); places = omega (arith, most) })
-    (record { luts = omega (arith, most); cuts = omega (arith, most); tables = omega (arith, most) })
-    (omega (arith, most)))
+    let most = start .pre .laid .most in (
+      most,
+      λ roles long.
+          judge-asked (start .pre) (λ i. omega (arith, after-shared-slice-known5 .shared-slice-known5 .given i))
+          (rw (after-terms-for .terms-for .ensures) at (after-load-sheet .load-sheet .ensures))
+          (record { labels = omega (arith, most); cuts = omega (arith, most); places = omega (arith, most) })
+          (record { luts = omega (arith, most); cuts = omega (arith, most); tables = omega (arith, most) }) long,
+    )
 
 enum-known-second : tie.Need-enum-known-second
 enum-known-second c = search needs
@@ -97,9 +95,8 @@ slice-aggregate-judge-last-5 c = search needs
 
 judge-last-requires : tie.Need-judge-last-requires
 judge-last-requires c κs =
-    let after-judge-gates = c .before .before .before .before .before .before .before .before in
-    let after-load-sheet = after-judge-gates .before .before .before .before .before .before .before .before .before
-    .before .before in
+    let after-load-sheet = c .before .before .before .before .before .before .before .before .before .before .before
+    .before .before .before .before .before .before in
     let after-terms-for = after-load-sheet .before .before .before .before .before .before .before in
     let after-shared-slice-known5 = after-terms-for .before in
     let start = after-shared-slice-known5 .before .before .before .before .before in
@@ -108,76 +105,69 @@ judge-last-requires c κs =
     (rw (after-terms-for .terms-for .ensures) at (after-load-sheet .load-sheet .ensures))
     (record { labels = omega (arith, most); cuts = omega (arith, most); places = omega (arith, most) })
     (record { luts = omega (arith, most); cuts = omega (arith, most); tables = omega (arith, most) })
-    (rw (after-terms-for .terms-for .ensures) at (after-judge-gates .judge-gates .ensures)) (omega (arith, most))
+    (omega (arith, most))
 
 returns : tie.Need-returns
 returns c =
-    let after-judge-gates = c .before .before .before .before in
-    let after-load-sheet = after-judge-gates .before .before .before .before .before .before .before .before .before
-    .before .before in
+    let after-judge-lines = c .before .before .before in
+    let after-load-sheet = after-judge-lines .before .before .before .before .before .before .before .before .before
+    .before in
     let after-terms-for = after-load-sheet .before .before .before .before .before .before .before in
     let after-shared-slice-known5 = after-terms-for .before in
     let start = after-shared-slice-known5 .before .before .before .before .before in
-    let at-second = c .before in
     let most = start .pre .laid .most in
     gates-cut (start .pre) (λ i. omega (arith, after-shared-slice-known5 .shared-slice-known5 .given i))
     (rw (after-terms-for .terms-for .ensures) at (after-load-sheet .load-sheet .ensures))
     (record { labels = omega (arith, most); cuts = omega (arith, most); places = omega (arith, most) })
-    (record { luts = omega (arith, most); cuts = omega (arith, most); tables = omega (arith, most) })
-    (rw (after-terms-for .terms-for .ensures) at (after-judge-gates .judge-gates .ensures))
-    (at-second .second .given .1)
+    (record { luts = omega (arith, most); cuts = omega (arith, most); tables = omega (arith, most) }) _
+    (after-judge-lines .judge-lines .ensures) (c .before .second .given .1)
 
 returns-2 : tie.Need-returns-2
 returns-2 c =
-    let after-judge-gates = c .before .before .before .before in
-    let after-load-sheet = after-judge-gates .before .before .before .before .before .before .before .before .before
-    .before .before in
+    let after-judge-lines = c .before .before .before in
+    let after-load-sheet = after-judge-lines .before .before .before .before .before .before .before .before .before
+    .before in
     let after-terms-for = after-load-sheet .before .before .before .before .before .before .before in
     let after-shared-slice-known5 = after-terms-for .before in
     let start = after-shared-slice-known5 .before .before .before .before .before in
-    let at-second2 = c .before in
     let most = start .pre .laid .most in
     gates-label (start .pre) (λ i. omega (arith, after-shared-slice-known5 .shared-slice-known5 .given i))
     (rw (after-terms-for .terms-for .ensures) at (after-load-sheet .load-sheet .ensures))
     (record { labels = omega (arith, most); cuts = omega (arith, most); places = omega (arith, most) })
-    (record { luts = omega (arith, most); cuts = omega (arith, most); tables = omega (arith, most) })
-    (rw (after-terms-for .terms-for .ensures) at (after-judge-gates .judge-gates .ensures))
-    (at-second2 .second2 .given .1)
+    (record { luts = omega (arith, most); cuts = omega (arith, most); tables = omega (arith, most) }) _
+    (after-judge-lines .judge-lines .ensures) (c .before .second2 .given .1)
 
 returns-3 : tie.Need-returns-3
 returns-3 c =
-    let after-judge-gates = c .before .before .before .before in
-    let after-load-sheet = after-judge-gates .before .before .before .before .before .before .before .before .before
-    .before .before in
+    let after-judge-lines = c .before .before .before in
+    let after-load-sheet = after-judge-lines .before .before .before .before .before .before .before .before .before
+    .before in
     let after-terms-for = after-load-sheet .before .before .before .before .before .before .before in
     let after-shared-slice-known5 = after-terms-for .before in
     let start = after-shared-slice-known5 .before .before .before .before .before in
-    let at-second3 = c .before in
     let most = start .pre .laid .most in
     gates-paths (start .pre) (λ i. omega (arith, after-shared-slice-known5 .shared-slice-known5 .given i))
     (rw (after-terms-for .terms-for .ensures) at (after-load-sheet .load-sheet .ensures))
     (record { labels = omega (arith, most); cuts = omega (arith, most); places = omega (arith, most) })
-    (record { luts = omega (arith, most); cuts = omega (arith, most); tables = omega (arith, most) })
-    (rw (after-terms-for .terms-for .ensures) at (after-judge-gates .judge-gates .ensures))
-    (at-second3 .second3 .given .1)
+    (record { luts = omega (arith, most); cuts = omega (arith, most); tables = omega (arith, most) }) _
+    (after-judge-lines .judge-lines .ensures) (c .before .second3 .given .1)
 
 returns-4 : tie.Need-returns-4
 returns-4 c =
     let after-enum-told = c .before .before .before .before .before .before .before in
-    let after-judge-gates = after-enum-told .before .before .before in
-    let after-load-sheet = after-judge-gates .before .before .before .before .before .before .before .before .before
-    .before .before in
+    let after-judge-lines = after-enum-told .before .before in
+    let after-load-sheet = after-judge-lines .before .before .before .before .before .before .before .before .before
+    .before in
     let after-terms-for = after-load-sheet .before .before .before .before .before .before .before in
     let after-shared-slice-known5 = after-terms-for .before in
     let start = after-shared-slice-known5 .before .before .before .before .before in
-    let at-judge-last = c .before in
     let most = start .pre .laid .most in
     gates-kept (start .pre) (λ i. omega (arith, after-shared-slice-known5 .shared-slice-known5 .given i))
     (rw (after-terms-for .terms-for .ensures) at (after-load-sheet .load-sheet .ensures))
     (record { labels = omega (arith, most); cuts = omega (arith, most); places = omega (arith, most) })
-    (record { luts = omega (arith, most); cuts = omega (arith, most); tables = omega (arith, most) })
-    (rw (after-terms-for .terms-for .ensures) at (after-judge-gates .judge-gates .ensures))
-    (after-enum-told .enum-told .given .1) (at-judge-last .judge-last .ensures)
+    (record { luts = omega (arith, most); cuts = omega (arith, most); tables = omega (arith, most) }) _
+    (after-judge-lines .judge-lines .ensures) (after-enum-told .enum-told .given .1)
+    (c .before .judge-last .ensures)
 
 pub judge-rules-spec : {M : Type 1} → statement M
 judge-rules-spec =
@@ -191,11 +181,10 @@ judge-rules-spec =
     slice-aggregate-load-sheet-5
     slice-aggregate-load-sheet-6
     load-sheet-requires
-    slice-aggregate-judge-gates
-    slice-aggregate-judge-gates-2
-    slice-aggregate-judge-gates-3
-    slice-aggregate-judge-gates-4
-    judge-gates-requires
+    slice-aggregate-judge-lines
+    slice-aggregate-judge-lines-2
+    slice-aggregate-judge-lines-3
+    judge-lines-requires
     enum-known-second
     enum-known-second-2
     enum-known-second-3

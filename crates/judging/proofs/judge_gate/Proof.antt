@@ -19,22 +19,18 @@ returns : tie.Need-returns
 returns c =
     let after-keeps-cut = c .before .before .before in
     let start = after-keeps-cut .before .before .before .before .before .before .before .before .before in
-    let keeps-cut-here = after-keeps-cut .keeps-cut in
-    let asked = start .pre in
-    tried-cut asked (keeps-cut-here .ensures) (not-true _ (c .if1 .taken))
+    tried-cut (start .pre) (after-keeps-cut .keeps-cut .ensures) (not-true _ (c .if1 .taken))
 
 peak-requires : tie.Need-peak-requires
 peak-requires c κs =
     let start = c .before .before .before .before .before .before .before .before .before .before .before .before in
-    let asked = start .pre in
-    peak-asked asked
+    peak-asked (start .pre)
 
 keeps-label-requires : tie.Need-keeps-label-requires
 keeps-label-requires c κs =
     let start = c .before .before .before .before .before .before .before .before .before .before .before .before
     .before in
-    let asked = start .pre in
-    label-asked asked
+    label-asked (start .pre)
 
 same-length-2 : tie.Need-same-length-2
 same-length-2 c = search needs
@@ -44,16 +40,8 @@ returns-2 c =
     let else1 = c .before .before .before in
     let after-keeps-cut = else1 .before .before .before in
     let start = after-keeps-cut .before .before .before .before .before .before .before .before .before in
-    let keeps-label-here = c .before .keeps-label in
-    let peak-here = c .before .before .peak in
-    let if1-here = else1 .if1 in
-    let keeps-cut-here = after-keeps-cut .keeps-cut in
-    let p = start .pre in
-    let cut = keeps-cut-here .ensures in
-    let yes-cut = not-false _ (if1-here .left) in
-    let peak = peak-here .ensures in
-    let label = keeps-label-here .ensures in
-    tried-label p cut yes-cut peak label (not-true _ (c .if2 .taken))
+    tried-label (start .pre) (after-keeps-cut .keeps-cut .ensures) (not-false _ (else1 .if1 .left))
+    (c .before .before .peak .ensures) (c .before .keeps-label .ensures) (not-true _ (c .if2 .taken))
 
 cast-v : tie.Need-cast-v
 cast-v c = search needs
@@ -65,25 +53,20 @@ shared-slice-read-at : tie.Need-shared-slice-read-at
 shared-slice-read-at c =
     let start = c .before .before .before .before .before .before .before .before .before .before .before .before
     .before .before .before .before .before in
-    let asked = start .pre in
-    place-inside asked
+    place-inside (start .pre)
 
 cast-at : tie.Need-cast-at
 cast-at c =
     let start = c .before .before .before .before .before .before .before .before .before .before .before .before
     .before .before .before .before .before in
-    let a = start .args in
-    omega (arith, c .shared-slice-known7 .given (a .gate .id))
+    omega (arith, c .shared-slice-known7 .given (start .args .gate .id))
 
 keeps-paths-requires : tie.Need-keeps-paths-requires
 keeps-paths-requires c κs =
     let after-peak = c .before .before .before .before .before in
     let after-keeps-cut = after-peak .before .before .before .before in
     let start = after-keeps-cut .before .before .before .before .before .before .before .before .before in
-    let peak-here = after-peak .peak in
-    let keeps-cut-here = after-keeps-cut .keeps-cut in
-    let p = start .pre in
-    paths-rule-asked p (peak-here .ensures) (keeps-cut-here .ensures .walk .rest .size)
+    paths-rule-asked (start .pre) (after-peak .peak .ensures) (after-keeps-cut .keeps-cut .ensures .walk .rest .size)
 
 same-length-3 : tie.Need-same-length-3
 same-length-3 c = search needs
@@ -97,19 +80,9 @@ returns-3 c =
     let else1 = after-peak .before in
     let after-keeps-cut = else1 .before .before .before in
     let start = after-keeps-cut .before .before .before .before .before .before .before .before .before in
-    let keeps-paths-here = after-keeps-paths .keeps-paths in
-    let if2-here = else2 .if2 in
-    let keeps-label-here = after-keeps-label .keeps-label in
-    let peak-here = after-peak .peak in
-    let if1-here = else1 .if1 in
-    let keeps-cut-here = after-keeps-cut .keeps-cut in
-    let p = start .pre in
-    let cut = keeps-cut-here .ensures in
-    let yes-cut = not-false _ (if1-here .left) in
-    let peak = peak-here .ensures in
-    let label = keeps-label-here .ensures in
-    let yes-label = not-false _ (if2-here .left) in
-    tried-paths p cut yes-cut peak label yes-label (keeps-paths-here .ensures) (not-true _ (c .if3 .taken))
+    tried-paths (start .pre) (after-keeps-cut .keeps-cut .ensures) (not-false _ (else1 .if1 .left))
+    (after-peak .peak .ensures) (after-keeps-label .keeps-label .ensures) (not-false _ (else2 .if2 .left))
+    (after-keeps-paths .keeps-paths .ensures) (not-true _ (c .if3 .taken))
 
 same-length-4 : tie.Need-same-length-4
 same-length-4 c = search needs
@@ -123,19 +96,9 @@ returns-4 c =
     let else1 = after-peak .before in
     let after-keeps-cut = else1 .before .before .before in
     let start = after-keeps-cut .before .before .before .before .before .before .before .before .before in
-    let keeps-paths-here = after-keeps-paths .keeps-paths in
-    let if2-here = else2 .if2 in
-    let keeps-label-here = after-keeps-label .keeps-label in
-    let peak-here = after-peak .peak in
-    let if1-here = else1 .if1 in
-    let keeps-cut-here = after-keeps-cut .keeps-cut in
-    let p = start .pre in
-    let cut = keeps-cut-here .ensures in
-    let yes-cut = not-false _ (if1-here .left) in
-    let peak = peak-here .ensures in
-    let label = keeps-label-here .ensures in
-    let yes-label = not-false _ (if2-here .left) in
-    tried-all p cut yes-cut peak label yes-label (keeps-paths-here .ensures) (not-false _ (c .if3 .left))
+    tried-all (start .pre) (after-keeps-cut .keeps-cut .ensures) (not-false _ (else1 .if1 .left))
+    (after-peak .peak .ensures) (after-keeps-label .keeps-label .ensures) (not-false _ (else2 .if2 .left))
+    (after-keeps-paths .keeps-paths .ensures) (not-false _ (c .if3 .left))
 
 pub judge-gate-spec : {M : Type 1} → statement M
 judge-gate-spec =

@@ -3,10 +3,11 @@ use borrow.Author.Needs.{needs}
 use native.Mathlib.Omega.{arith}
 use mathlib.Core.Path.{refl, subst}
 use denote.Ref.{now}
-use Rattle.taking.specs.Judged.{Says}
-use Rattle.taking.proofs.Judged.{says, table-taken, never-short}
-use Rattle.mapping.specs.Maps.{Maps}
-use Rattle.mapping.proofs.Mapped.{taken-asked, maps-taken}
+use Rattle.taking.specs.paper.Says.{Says}
+use Rattle.taking.proofs.Judged.{says, table-taken, never-short, refused-verdict, loop-said}
+use Rattle.mapping.specs.paper.Maps.{Maps}
+use Rattle.settling.proofs.Tables.{taken-asked}
+use Rattle.mapping.proofs.Mapped.{maps-taken}
 use Rattle.mapping.proofs.map.Statement.{statement}
 use Rattle.mapping.proofs.map.Tie as tie
 
@@ -78,20 +79,21 @@ returns-2 c =
     let after-take-table = c .before .before .before .before .before .before .before .before in
     let start = after-take-table .before .before .before .before .before .before .before .before in
     Maps.refused
+    (refused-verdict
     (subst (Says (now (start .args .table))) (c .before .taken2 .given .1)
     (says (after-take-table .take-table .ensures) (omega arith) (omega arith) (omega arith) (omega arith)
-    (omega arith)))
+    (omega arith))))
     refl refl
 
 returns-3 : tie.Need-returns-3
 returns-3 c =
     let after-take-table = c .before .before .before .before .before .before .before .before in
     let start = after-take-table .before .before .before .before .before .before .before .before in
-    Maps.loop
+    let (whole, loop) = loop-said
     (subst (Says (now (start .args .table))) (c .before .taken3 .given .1)
     (says (after-take-table .take-table .ensures) (omega arith) (omega arith) (omega arith) (omega arith)
-    (omega arith)))
-    refl refl
+    (omega arith))) in
+    Maps.loop whole loop refl refl
 
 returns-4 : tie.Need-returns-4
 returns-4 c =

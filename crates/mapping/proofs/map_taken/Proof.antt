@@ -3,7 +3,8 @@ use borrow.Author.Needs.{needs}
 use native.Mathlib.Omega.{arith}
 use mathlib.Core.Path.{refl}
 use Rattle.mapping.specs.Sheets.{TakenMapped}
-use Rattle.mapping.proofs.DrawingsMapped.{paper-arrays, paper-asked}
+use Rattle.settling.proofs.Standing.{paper-arrays}
+use Rattle.mapping.proofs.DrawingsMapped.{paper-asked}
 use Rattle.mapping.proofs.map_taken.Statement.{statement}
 use Rattle.mapping.proofs.map_taken.Tie as tie
 

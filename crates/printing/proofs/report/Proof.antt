@@ -1,7 +1,7 @@
 -- `report` meets its contract: the line is that of the inspector's reply.
 use mathlib.Core.Path.{refl}
-use Rattle.printing.specs.Filled.{Filled}
-use Rattle.printing.proofs.Fronts.{front}
+use Rattle.wording.specs.paper.Filled.{Filled}
+use Rattle.wording.proofs.Filled.{front}
 use Rattle.printing.proofs.Replies.{reported}
 use borrow.Author.Needs.{needs}
 use Rattle.printing.proofs.report.Statement.{statement}

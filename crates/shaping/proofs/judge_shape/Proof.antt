@@ -1,49 +1,41 @@
--- `judge_shape` meets its contract: the head's ruling, then what follows the head.
+-- `judge_shape` meets its contract: the walk from the head on ends with the ruling.
 use mathlib.Core.Path.{sym, _∙_}
-use denote.Ref.{now}
-use Rattle.shaping.specs.Terms.{dueOf}
-use Rattle.shaping.proofs.FieldRuns.{head-faulty, head-then}
 use borrow.Author.Needs.{needs}
+use Rattle.shaping.proofs.FieldRuns.{ended-same, head-goes-on, fields-go-on}
 use Rattle.shaping.proofs.judge_shape.Statement.{statement}
 use Rattle.shaping.proofs.judge_shape.Tie as tie
 
-head-ruling-requires : tie.Need-head-ruling-requires
-head-ruling-requires c κs = search needs
+judge-fields-requires : tie.Need-judge-fields-requires
+judge-fields-requires c κs = record { narrow = c .before .pre .0; gates = c .before .pre .1 }
 
-enum-known-head : tie.Need-enum-known-head
-enum-known-head c = search needs
+enum-known-run : tie.Need-enum-known-run
+enum-known-run c = search needs
 
 enum-told : tie.Need-enum-told
 enum-told c = search needs
 
-judge-from-lines-requires : tie.Need-judge-from-lines-requires
-judge-from-lines-requires c κs =
-    let start = c .before .before .before .before in
-    (start .pre .0, (start .pre .1, sym (c .before .before .head-ruling .ensures) ∙ c .enum-told .given .1))
+enum-told-2 : tie.Need-enum-told-2
+enum-told-2 c = search needs
 
 returns : tie.Need-returns
 returns c =
-    let after-head-ruling = c .before .before .before in
-    let start = after-head-ruling .before .before in
-    let a = start .args in
-    head-faulty (dueOf (a .terms)) (now (a .sheet)) (after-head-ruling .head-ruling .ensures)
-    (c .before .head .given .1)
+    let after-judge-fields = c .before .before .before in
+    ended-same (sym (c .before .run .given .1) ∙ after-judge-fields .judge-fields .ensures)
 
 returns-2 : tie.Need-returns-2
-returns-2 c =
-    let after-head-ruling = c .before .before .before in
-    let start = after-head-ruling .before .before in
-    let a = start .args in
-    head-then (dueOf (a .terms)) (now (a .sheet)) (after-head-ruling .head-ruling .ensures)
-    (c .before .enum-told .given .1) (c .judge-from-lines .ensures)
+returns-2 c = absurd (head-goes-on (sym (c .enum-told .given .1) ∙ c .before .before .judge-fields .ensures))
+
+returns-3 : tie.Need-returns-3
+returns-3 c = absurd (fields-go-on (sym (c .enum-told2 .given .1) ∙ c .before .before .judge-fields .ensures))
 
 pub judge-shape-spec : {M : Type 1} → statement M
 judge-shape-spec =
     tie.close
     (tie.spec
-    head-ruling-requires
-    enum-known-head
+    judge-fields-requires
+    enum-known-run
     enum-told
-    judge-from-lines-requires
+    enum-told-2
     returns
-    returns-2)
+    returns-2
+    returns-3)

@@ -1,7 +1,7 @@
 -- `load_sheet` meets its contract: the lines, the LUTs, and the head's depth.
 use mathlib.Core.Path.{_∙_, ap, sym}
 use denote.Ref.{now}
-use Rattle.sheet.specs.Sheet.{Sheet}
+use Rattle.sheet.specs.paper.Sheet.{Sheet}
 use Rattle.shaping.specs.Terms.{dueOf}
 use Rattle.shaping.proofs.FieldRuns.{head-inside}
 use Rattle.shaping.proofs.Found.{whole}
@@ -21,8 +21,8 @@ load-luts-requires c κs =
     in
     (start .pre .0, (after-load-lines .load-lines .ensures .end, start .pre .1 .1))
 
-small-at-requires : tie.Need-small-at-requires
-small-at-requires c κs =
+label-at-requires : tie.Need-label-at-requires
+label-at-requires c κs =
     let start = c .before .before .before .before .before .before .before .before .before .before .before .before
     .before .before .before .before .before .before .before .before .before .before .before .before .before .before
     .before in
@@ -31,9 +31,6 @@ small-at-requires c κs =
       start .pre .0 .narrow,
       omega (arith, head-inside due (now (a .sheet)) (whole due (now (a .sheet)) (start .pre .0 .sound) .head)),
     )
-
-cast-depth : tie.Need-cast-depth
-cast-depth c = omega (arith, c .small-at .ensures .fits)
 
 same-length : tie.Need-same-length
 same-length c =
@@ -81,7 +78,7 @@ returns c =
       lines = after-load-lines .load-lines .ensures .filled;
       luts = after-load-luts .load-luts .ensures;
       depth =
-          c .small-at .ensures .number
+          c .label-at .ensures .number
           ∙ ap (λ (sheet : Sheet). sheet .depth) (sym (whole due (now (a .sheet)) (start .pre .0 .sound) .sheet));
     }
 
@@ -91,8 +88,7 @@ load-sheet-spec =
     (tie.spec
     load-lines-requires
     load-luts-requires
-    small-at-requires
-    cast-depth
+    label-at-requires
     same-length
     same-length-2
     same-length-3

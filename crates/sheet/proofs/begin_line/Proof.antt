@@ -1,6 +1,6 @@
 -- `begin_line` meets its contract: label, leaves and the number of paths behind an open tag.
 use denote.Ref.{now}
-use Rattle.sheet.specs.Encoding.{digits, byte, leavesBytes}
+use Rattle.sheet.specs.paper.Encoding.{digits, byte, leavesBytes}
 use Rattle.sheet.specs.Writing.{part}
 use Rattle.sheet.proofs.Writes.{opening-room, first-room, second-room, third-room, three-written}
 use borrow.Author.Needs.{needs}

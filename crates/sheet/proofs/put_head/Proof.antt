@@ -1,7 +1,7 @@
 -- `put_head` meets its contract: three numbers behind an open tag, and the length.
 use mathlib.Core.List.{_++_}
 use denote.Ref.{now}
-use Rattle.sheet.specs.Encoding.{digits, byte}
+use Rattle.sheet.specs.paper.Encoding.{digits, byte}
 use Rattle.sheet.proofs.Writes.{field-room, opening-room, first-room, second-room, third-room, three-written}
 use Rattle.sheet.proofs.Writes.{closing-room, closed}
 use borrow.Author.Needs.{needs}

@@ -1,7 +1,7 @@
 -- `put_lut` meets its contract: root, leaves and table behind an open tag, and the length.
 use mathlib.Core.List.{_++_}
 use denote.Ref.{now}
-use Rattle.sheet.specs.Encoding.{digits, leavesBytes}
+use Rattle.sheet.specs.paper.Encoding.{digits, leavesBytes}
 use Rattle.sheet.specs.Writing.{part}
 use Rattle.sheet.proofs.Writes.{field-room, opening-room, first-room, second-room, third-room, three-written}
 use Rattle.sheet.proofs.Writes.{closing-room, closed}

@@ -6,7 +6,7 @@ use lib.ListN.{length}
 use lib.Dec.{leb}
 use denote.Ref.{now}
 use borrow.Author.Tests.{lt-leb}
-use Rattle.drawing.specs.Limits.{mostNodes}
+use Rattle.drawing.specs.paper.Limits.{mostNodes}
 use Rattle.drawing.specs.Reading.{arraysOf}
 use Rattle.taking.specs.Taking.{After, Takes}
 use Rattle.taking.proofs.Takings.{whole-room, whole-after}

@@ -42,25 +42,18 @@ loop-holds c =
 sub-i-2 : tie.Need-sub-i-2 Inv-loop μ-loop
 sub-i-2 c = c .loop-test .taken
 
-mul-t18 : tie.Need-mul-t18 Inv-loop μ-loop
-mul-t18 c =
+node-at-requires : tie.Need-node-at-requires Inv-loop μ-loop
+node-at-requires c κs =
     let start = c .before .before .before .before .before .before .before .before .before .before .before in
-    omega (arith, c .before .loop .inv .0, start .pre .drawing .small, c .loop-test .taken)
-
-shared-slice-read-t20 : tie.Need-shared-slice-read-t20 Inv-loop μ-loop
-shared-slice-read-t20 c =
-    let start = c .before .before .before .before .before .before .before .before .before .before .before .before in
-    let at-loop = c .before .before in
-    omega (arith, at-loop .loop .inv .0, start .pre .drawing .order-long, c .before .loop-test .taken)
+    omega (arith, c .before .loop .inv .0, start .pre .drawing .order-long, c .loop-test .taken)
 
 pass-requires : tie.Need-pass-requires Inv-loop μ-loop
 pass-requires c κs =
     let at-loop = c .before .before .before in
     let after-clear = at-loop .before .before .before .before in
     let start = after-clear .before .before .before .before .before .before in
-    let at-loop-test = c .before .before in
     turn-room (start .pre) (after-clear .clear .ensures) refl (at-loop .loop .inv .1)
-    (at-loop-test .loop-test .taken) (at-loop .loop .inv .0) refl
+    (c .before .before .loop-test .taken) (at-loop .loop .inv .0) (c .before .node-at .ensures)
 
 loop-less : tie.Need-loop-less Inv-loop μ-loop
 loop-less c =
@@ -69,15 +62,15 @@ loop-less c =
 
 loop-again : tie.Need-loop-again Inv-loop μ-loop
 loop-again c =
-    let in-loop = c .before .before .before .before .before in
+    let after-node-at = c .before .before .before .before in
+    let in-loop = after-node-at .before in
     let at-loop = in-loop .before in
     let after-clear = at-loop .before .before .before .before in
     let start = after-clear .before .before .before .before .before .before in
-    let at-pass = c .before .before in
     let held = at-loop .loop .inv in (
       omega (arith, held .0),
       walk-turns (start .pre) (after-clear .clear .ensures) refl (held .1) (in-loop .loop-test .taken) (held .0)
-          refl (at-pass .pass .ensures),
+          (after-node-at .node-at .ensures) (c .before .before .pass .ensures),
     )
 
 same-length : tie.Need-same-length Inv-loop μ-loop
@@ -106,8 +99,7 @@ walk-spec =
     sub-i
     loop-holds
     sub-i-2
-    mul-t18
-    shared-slice-read-t20
+    node-at-requires
     pass-requires
     loop-less
     loop-again

@@ -4,7 +4,7 @@ use Prim.Native.Nat.{ℕ, _-_, _≤_}
 use mathlib.Core.List.{List, _++_}
 use denote.Ref.{now}
 use lib.ListN.{length, take, length-append}
-use Rattle.wording.specs.Text.{each, headLine}
+use Rattle.wording.specs.paper.Text.{each, headLine}
 use Rattle.wording.specs.Arrays.{Arrays, arraysOf, lutText, outputText, markedFrom}
 use Rattle.wording.proofs.Puts.{put-then, put-wrote}
 use Rattle.wording.proofs.Listed.{listing-parts}

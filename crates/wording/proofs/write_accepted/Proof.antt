@@ -1,7 +1,7 @@
 -- `write_accepted` meets its contract.
 use native.Mathlib.Omega.{arith}
 use lib.ListN.{length-append}
-use Rattle.wording.specs.Text.{acceptedLine}
+use Rattle.wording.specs.paper.Text.{acceptedLine}
 use Rattle.wording.proofs.Puts.{put-then, put-wrote}
 use Rattle.wording.proofs.Rooms.{accepted-room}
 use borrow.Author.Needs.{needs}

@@ -1,7 +1,7 @@
 -- `write_refused` meets its contract.
 use native.Mathlib.Omega.{arith}
 use lib.ListN.{length-append}
-use Rattle.wording.specs.Text.{refusedLine}
+use Rattle.wording.specs.paper.Text.{refusedLine}
 use Rattle.wording.proofs.Puts.{put-then, put-wrote}
 use Rattle.wording.proofs.Rooms.{refused-room}
 use borrow.Author.Needs.{needs}

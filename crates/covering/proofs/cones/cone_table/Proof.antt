@@ -13,11 +13,11 @@ use Rattle.covering.proofs.cones.cone_table.Statement.{statement}
 use Rattle.covering.proofs.cones.cone_table.Tie as tie
 
 abbrev Inv-loop : tie.InvT-loop
-Inv-loop numbers fanins rows order leaves values₀ upto many all at table₀ row₀ values table row =
-    RowsMade (numbers .inputs) (numbers .nodes) fanins rows at leaves many values₀ row table values
+Inv-loop numbers fanins rows order leaves size values₀ upto all at table₀ row₀ values table row =
+    RowsMade (numbers .inputs) (numbers .nodes) fanins rows at leaves (size .leaves) values₀ row table values
 
 abbrev μ-loop : tie.MeasureT-loop
-μ-loop numbers fanins rows order leaves values₀ upto many all at table₀ row₀ values table row = all - row
+μ-loop numbers fanins rows order leaves size values₀ upto all at table₀ row₀ values table row = all - row
 
 clear-words-requires : tie.Need-clear-words-requires Inv-loop μ-loop
 clear-words-requires c κs =
@@ -37,12 +37,9 @@ add-upto c =
     let pre = start .pre in
     omega (arith, upto-gates pre (c .place-of .result) (c .place-of .ensures))
 
-cast-many : tie.Need-cast-many Inv-loop μ-loop
-cast-many c = search needs
-
 rows-of-requires : tie.Need-rows-of-requires Inv-loop μ-loop
 rows-of-requires c κs =
-    let start = c .before .before .before .before .before .before .before .before .before .before .before in
+    let start = c .before .before .before .before .before .before .before .before .before .before in
     let pre = start .pre in
     leaves-fit pre .few
 
@@ -51,7 +48,7 @@ cast-at c = search needs
 
 loop-holds : tie.Need-loop-holds Inv-loop μ-loop
 loop-holds c =
-    let after-clear-words = c .before .before .before .before .before .before in
+    let after-clear-words = c .before .before .before .before .before in
     let start = after-clear-words .before .before .before .before .before .before .before in
     let clear-words = after-clear-words .clear-words in
     let args = start .args in
@@ -60,7 +57,7 @@ loop-holds c =
 
 set-leaves-requires : tie.Need-set-leaves-requires Inv-loop μ-loop
 set-leaves-requires c κs =
-    let after-clear-words = c .before .before .before .before .before .before .before .before .before in
+    let after-clear-words = c .before .before .before .before .before .before .before .before in
     let start = after-clear-words .before .before .before .before .before .before .before in
     let loop = c .before .before .loop in
     let clear-words = after-clear-words .clear-words in
@@ -73,7 +70,7 @@ sweep-requires : tie.Need-sweep-requires Inv-loop μ-loop
 sweep-requires c κs =
     let after-set-leaves = c .before .before .before in
     let at-loop = after-set-leaves .before .before .before in
-    let after-place-of = at-loop .before .before .before .before in
+    let after-place-of = at-loop .before .before .before in
     let after-clear-words = after-place-of .before .before .before in
     let start = after-clear-words .before .before .before .before .before .before .before in
     let set-leaves = after-set-leaves .set-leaves in
@@ -89,7 +86,7 @@ sweep-requires c κs =
 mul-with-row : tie.Need-mul-with-row Inv-loop μ-loop
 mul-with-row c =
     let start = c .before .before .before .before .before .before .before .before .before .before .before .before
-    .before .before .before .before .before .before .before .before .before .before .before in
+    .before .before .before .before .before .before .before .before .before .before in
     let a = start .args in
     let good = start .good in
     let p = start .pre in
@@ -101,7 +98,7 @@ slice-read-with-row c =
     let after-sweep = c .before .before .before in
     let after-set-leaves = after-sweep .before .before .before .before in
     let at-loop = after-set-leaves .before .before .before in
-    let after-clear-words = at-loop .before .before .before .before .before .before .before in
+    let after-clear-words = at-loop .before .before .before .before .before .before in
     let start = after-clear-words .before .before .before .before .before .before .before in
     let sweep = after-sweep .sweep in
     let set-leaves = after-set-leaves .set-leaves in
@@ -118,8 +115,7 @@ with-row-requires c κs =
     let in-loop = c .before .before .before .before .before .before .before .before .before in
     let at-loop = in-loop .before in
     let after-rows-of = at-loop .before .before in
-    let start = after-rows-of .before .before .before .before .before .before .before .before .before .before .before
-    .before in
+    let start = after-rows-of .before .before .before .before .before .before .before .before .before .before .before in
     let loop-test = in-loop .loop-test in
     let loop = at-loop .loop in
     let rows-of = after-rows-of .rows-of in
@@ -130,8 +126,7 @@ add-row : tie.Need-add-row Inv-loop μ-loop
 add-row c =
     let in-loop = c .before .before .before .before .before .before .before .before .before .before in
     let after-rows-of = in-loop .before .before .before in
-    let start = after-rows-of .before .before .before .before .before .before .before .before .before .before .before
-    .before in
+    let start = after-rows-of .before .before .before .before .before .before .before .before .before .before .before in
     let loop-test = in-loop .loop-test in
     let rows-of = after-rows-of .rows-of in
     let pre = start .pre in
@@ -147,7 +142,7 @@ loop-again c =
     let in-loop = after-set-leaves .before .before in
     let at-loop = in-loop .before in
     let after-rows-of = at-loop .before .before in
-    let after-place-of = after-rows-of .before .before in
+    let after-place-of = after-rows-of .before in
     let start = after-place-of .before .before .before .before .before .before .before .before .before .before in
     let sweep = after-sweep .sweep in
     let set-leaves = after-set-leaves .set-leaves in
@@ -161,7 +156,7 @@ loop-again c =
 
 clear-words-requires-2 : tie.Need-clear-words-requires-2 Inv-loop μ-loop
 clear-words-requires-2 c κs =
-    let after-clear-words = c .before .before .before .before .before .before .before .before .before in
+    let after-clear-words = c .before .before .before .before .before .before .before .before in
     let start = after-clear-words .before .before .before .before .before .before .before in
     let loop = c .before .before .loop in
     let clear-words = after-clear-words .clear-words in
@@ -173,7 +168,7 @@ clear-words-requires-2 c κs =
 same-length : tie.Need-same-length Inv-loop μ-loop
 same-length c =
     let at-loop = c .before .before .before .before .before in
-    let after-clear-words = at-loop .before .before .before .before .before .before .before in
+    let after-clear-words = at-loop .before .before .before .before .before .before in
     let start = after-clear-words .before .before .before .before .before .before .before in
     let clear-words2 = c .before .before .clear-words2 in
     let loop = at-loop .loop in
@@ -190,7 +185,7 @@ returns c =
     let after-loop = c .before .before .before .before in
     let at-loop = after-loop .before in
     let after-rows-of = at-loop .before .before in
-    let after-clear-words = after-rows-of .before .before .before .before .before in
+    let after-clear-words = after-rows-of .before .before .before .before in
     let start = after-clear-words .before .before .before .before .before .before .before in
     let clear-words2 = c .before .before .clear-words2 in
     let loop-test = after-loop .loop-test in
@@ -211,7 +206,6 @@ cone-table-spec =
     clear-words-requires
     place-of-requires
     add-upto
-    cast-many
     rows-of-requires
     cast-at
     loop-holds

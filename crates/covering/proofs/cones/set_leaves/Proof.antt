@@ -3,7 +3,7 @@ use native.Mathlib.Omega.{arith}
 use Prim.Native.Nat.{ℕ, _≤_, _-_}
 use mathlib.Core.Path.{_≡_, subst}
 use denote.Ref.{now}
-use Rattle.theory.specs.Values.{resultAt}
+use Rattle.theory.specs.paper.Values.{resultAt}
 use Rattle.theory.proofs.Rows.{bit-below}
 use Rattle.covering.specs.Cones.{LeavesSet}
 use Rattle.covering.proofs.Sweeps.{leaves-none, leaves-more}
@@ -11,22 +11,26 @@ use Rattle.covering.proofs.cones.set_leaves.Statement.{statement}
 use Rattle.covering.proofs.cones.set_leaves.Tie as tie
 
 abbrev Inv-loop : tie.InvT-loop
-Inv-loop leaves size row values₀ i₀ values i = (i ≤ size) × LeavesSet leaves i row values₀ values
+Inv-loop leaves row values₀ many i₀ values i = (i ≤ many) × LeavesSet leaves i row values₀ values
 
 abbrev μ-loop : tie.MeasureT-loop
-μ-loop leaves size row values₀ i₀ values i = size - i
+μ-loop leaves row values₀ many i₀ values i = many - i
+
+cast-many : tie.Need-cast-many Inv-loop μ-loop
+cast-many c = omega arith
 
 loop-holds : tie.Need-loop-holds Inv-loop μ-loop
 loop-holds c =
-    let args = c .before .before .args in
-    (omega arith, leaves-none (now (args .leaves)) (args .size) (args .row) (now (args .values)))
+    let start = c .before .before .before in
+    let args = start .args in
+    (omega arith, leaves-none (now (args .leaves)) (args .size .leaves) (args .row) (now (args .values)))
 
 result-at-requires : tie.Need-result-at-requires Inv-loop μ-loop
 result-at-requires c κs = omega arith
 
 add-values : tie.Need-add-values Inv-loop μ-loop
 add-values c =
-    let start = c .before .before .before .before .before in
+    let start = c .before .before .before .before .before .before in
     let loop = c .before .before .loop in
     let args = start .args in
     omega (arith, c .result-at .ensures, bit-below (resultAt (args .row) (loop .i)))
@@ -45,7 +49,7 @@ cast-values c =
 mul-values-2 : tie.Need-mul-values-2 Inv-loop μ-loop
 mul-values-2 c =
     let at-loop = c .before .before .before in
-    let start = at-loop .before .before .before in
+    let start = at-loop .before .before .before .before in
     let good = start .good in
     let pre = start .pre in
     let l = at-loop .loop in
@@ -55,7 +59,7 @@ mul-values-2 c =
 slice-write-values : tie.Need-slice-write-values Inv-loop μ-loop
 slice-write-values c =
     let at-loop = c .before .before .before in
-    let start = at-loop .before .before .before in
+    let start = at-loop .before .before .before .before in
     let pre = start .pre in
     let a = start .args in
     let l = at-loop .loop in
@@ -70,12 +74,12 @@ loop-less c = omega arith
 loop-again : tie.Need-loop-again Inv-loop μ-loop
 loop-again c =
     let at-loop = c .before .before .before in
-    let start = at-loop .before .before .before in
+    let start = at-loop .before .before .before .before in
     let pre = start .pre in
     let a = start .args in
     let l = at-loop .loop in (
       omega arith,
-      leaves-more (now (a .leaves)) (a .size) (a .row) (now (a .values)) (l .i) pre (omega arith)
+      leaves-more (now (a .leaves)) (a .size .leaves) (a .row) (now (a .values)) (l .i) pre (omega arith)
           (c .before .result-at .ensures) (l .inv .1),
     )
 
@@ -84,9 +88,9 @@ same-length c = omega arith
 
 returns : tie.Need-returns Inv-loop μ-loop
 returns c =
-    let start = c .before .before .before .before in
+    let start = c .before .before .before .before .before in
     let args = start .args in
-    let all : c .before .loop .i ≡ args .size = omega arith in
+    let all : c .before .loop .i ≡ args .size .leaves = omega arith in
     subst (λ (n : ℕ). LeavesSet (now (args .leaves)) n (args .row) (now (args .values)) (c .before .loop .values))
     all (c .before .loop .inv .1)
 
@@ -96,6 +100,7 @@ set-leaves-spec =
     (tie.spec
     Inv-loop
     μ-loop
+    cast-many
     loop-holds
     result-at-requires
     add-values

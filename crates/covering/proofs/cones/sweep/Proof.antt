@@ -20,15 +20,9 @@ loop-holds c =
     let a = start .args in
     (omega arith, swept-none (now (a .fanins)) (now (a .rows)) (now (a .order)) (now (a .values)))
 
-mul-t9 : tie.Need-mul-t9 Inv-loop μ-loop
-mul-t9 c =
+node-at-requires : tie.Need-node-at-requires Inv-loop μ-loop
+node-at-requires c κs =
     let start = c .before .before .before .before .before .before in
-    let pre = start .pre in
-    omega (arith, pre .inside)
-
-shared-slice-read-t11 : tie.Need-shared-slice-read-t11 Inv-loop μ-loop
-shared-slice-read-t11 c =
-    let start = c .before .before .before .before .before .before .before in
     let pre = start .pre in
     omega (arith, pre .inside)
 
@@ -38,7 +32,7 @@ settle-gate-requires c κs =
     let start = at-loop .before .before .before .before .before in
     let pre = start .pre in
     let l = at-loop .loop in
-    rw (l .inv .1 .long) (pre .gates (l .i) (omega arith))
+    rw (c .before .node-at .ensures, l .inv .1 .long) (pre .gates (l .i) (omega arith))
 
 add-i : tie.Need-add-i Inv-loop μ-loop
 add-i c = omega arith
@@ -48,7 +42,8 @@ loop-less c = omega arith
 
 loop-again : tie.Need-loop-again Inv-loop μ-loop
 loop-again c =
-    let at-loop = c .before .before .before .before .before .before in
+    let after-node-at = c .before .before .before .before in
+    let at-loop = after-node-at .before .before in
     let start = at-loop .before .before .before .before .before in
     let settle-gate = c .before .before .settle-gate in
     let a = start .args in
@@ -56,7 +51,7 @@ loop-again c =
     let l = at-loop .loop in (
       omega arith,
       swept-more (now (a .fanins)) (now (a .rows)) (now (a .order)) (now (a .values)) (a .upto) (l .i) pre
-          (omega arith) (l .inv .1) (settle-gate .ensures),
+          (omega arith) (l .inv .1) (rw (after-node-at .node-at .ensures) at (settle-gate .ensures)),
     )
 
 same-length : tie.Need-same-length Inv-loop μ-loop
@@ -78,8 +73,7 @@ sweep-spec =
     Inv-loop
     μ-loop
     loop-holds
-    mul-t9
-    shared-slice-read-t11
+    node-at-requires
     settle-gate-requires
     add-i
     loop-less

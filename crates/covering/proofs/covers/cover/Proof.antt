@@ -53,18 +53,11 @@ loop-holds c =
 sub-i-2 : tie.Need-sub-i-2 Inv-loop μ-loop
 sub-i-2 c = omega arith
 
-mul-t17 : tie.Need-mul-t17 Inv-loop μ-loop
-mul-t17 c =
+node-at-requires : tie.Need-node-at-requires Inv-loop μ-loop
+node-at-requires c κs =
     let start = c .before .before .before .before .before .before .before .before .before .before .before .before
     .before .before in
-    let pre = start .pre in
-    omega (arith, c .before .loop .inv .passed, pre .chosen .order-long)
-
-shared-slice-read-t19 : tie.Need-shared-slice-read-t19 Inv-loop μ-loop
-shared-slice-read-t19 c =
-    let start = c .before .before .before .before .before .before .before .before .before .before .before .before
-    .before .before .before in
-    let loop = c .before .before .loop in
+    let loop = c .before .loop in
     let pre = start .pre in
     omega (arith, loop .inv .passed, pre .chosen .order-long)
 
@@ -80,21 +73,24 @@ mark-leaves-requires c κs =
     let p = start .pre in
     let l = at-loop .loop in
     let same = ap length (clear .ensures) ∙ cleared-size (a .numbers .nodes) (now (a .luts)) (p .luts-long) in
-    rw (l .inv .rest .size, mark-gates .ensures .long, same) (cut-fits p (l .i - 1) (omega (arith, l .inv .passed)))
+    rw (c .before .node-at .ensures, l .inv .rest .size, mark-gates .ensures .long, same)
+    (cut-fits p (l .i - 1) (omega (arith, l .inv .passed)))
 
 loop-less : tie.Need-loop-less Inv-loop μ-loop
 loop-less c = omega arith
 
 loop-again : tie.Need-loop-again Inv-loop μ-loop
 loop-again c =
-    let at-loop = c .before .before .before .before .before .before in
+    let after-node-at = c .before .before .before .before in
+    let at-loop = after-node-at .before .before in
     let start = at-loop .before .before .before .before .before .before .before .before .before .before .before .before
     .before in
     let mark-leaves = c .before .before .mark-leaves in
     let pre = start .pre in
     let l = at-loop .loop in
     let one : l .i ≡ l .i - 1 + 1 = omega arith in
-    backed-more pre (l .i - 1) (omega (arith, l .inv .passed)) (rw one at (l .inv)) (mark-leaves .ensures)
+    backed-more pre (l .i - 1) (omega (arith, l .inv .passed)) (rw one at (l .inv))
+    (rw (after-node-at .node-at .ensures) at (mark-leaves .ensures))
 
 count-marks-requires : tie.Need-count-marks-requires Inv-loop μ-loop
 count-marks-requires c κs =
@@ -150,8 +146,7 @@ cover-spec =
     sub-i
     loop-holds
     sub-i-2
-    mul-t17
-    shared-slice-read-t19
+    node-at-requires
     mark-leaves-requires
     loop-less
     loop-again

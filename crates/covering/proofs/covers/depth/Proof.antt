@@ -1,7 +1,7 @@
 -- `depth` meets its contract: from the last output back, the label kept is the greatest so far.
 use native.Mathlib.Omega.{arith}
-use Prim.Native.Nat.{max, _+_, _≤_, _-_}
-use mathlib.Core.Path.{_≡_, ap, sym, _∙_}
+use Prim.Native.Nat.{ℕ, max, _+_, _≤_, _-_}
+use mathlib.Core.Path.{_≡_, ap, ap₂, sym, _∙_}
 use lib.ListN.{getD}
 use denote.Ref.{now}
 use Rattle.storage.proofs.Entries.{member-of-part}
@@ -10,7 +10,7 @@ use Rattle.covering.proofs.covers.depth.Statement.{statement}
 use Rattle.covering.proofs.covers.depth.Tie as tie
 
 abbrev Inv-loop : tie.InvT-loop
-Inv-loop labels outputs number best₀ i₀ best i = (i ≤ number) × (best ≡ greatestFrom labels outputs number i)
+Inv-loop labels outputs number best₀ i₀ best i = (i ≤ number) × (best .depth ≡ greatestFrom labels outputs number i)
 
 abbrev μ-loop : tie.MeasureT-loop
 μ-loop labels outputs number best₀ i₀ best i = i
@@ -27,43 +27,20 @@ sub-i c =
     let pre = start .pre in
     omega (arith, pre .outputs-long)
 
-mul-larger : tie.Need-mul-larger Inv-loop μ-loop
-mul-larger c =
+node-at-requires : tie.Need-node-at-requires Inv-loop μ-loop
+node-at-requires c κs =
     let start = c .before .before .before .before in
-    let pre = start .pre in
-    omega (arith, pre .outputs-long)
+    omega (arith, start .pre .outputs-long)
 
-shared-slice-read-larger : tie.Need-shared-slice-read-larger Inv-loop μ-loop
-shared-slice-read-larger c =
+label-of-requires : tie.Need-label-of-requires Inv-loop μ-loop
+label-of-requires c κs =
     let start = c .before .before .before .before .before in
-    let pre = start .pre in
-    omega (arith, pre .outputs-long)
-
-cast-larger : tie.Need-cast-larger Inv-loop μ-loop
-cast-larger c =
-    let after-shared-slice-known2 = c .before .before .before in
-    omega (arith, after-shared-slice-known2 .shared-slice-known2 .given (c .before .before .loop .i - 1))
-
-mul-larger-2 : tie.Need-mul-larger-2 Inv-loop μ-loop
-mul-larger-2 c =
-    let start = c .before .before .before .before .before in
-    let good = start .good in
     let pre = start .pre in
     let a = start .args in
     let l = c .before .before .loop in
-    let low = pre .labelled (getD (now (a .outputs)) (l .i - 1) 0)
-    (member-of-part (a .number) (now (a .outputs)) (l .i - 1) (omega arith) (omega (arith, pre .outputs-long))) in
-    omega (arith, good)
-
-shared-slice-read-larger-2 : tie.Need-shared-slice-read-larger-2 Inv-loop μ-loop
-shared-slice-read-larger-2 c =
-    let at-loop = c .before .before .before in
-    let start = at-loop .before .before .before in
-    let pre = start .pre in
-    let a = start .args in
-    let l = at-loop .loop in
-    pre .labelled (getD (now (a .outputs)) (l .i - 1) 0)
-    (member-of-part (a .number) (now (a .outputs)) (l .i - 1) (omega arith) (omega (arith, pre .outputs-long)))
+    rw (c .node-at .ensures)
+    (pre .labelled (getD (now (a .outputs)) (l .i - 1) 0)
+    (member-of-part (a .number) (now (a .outputs)) (l .i - 1) (omega arith) (omega (arith, pre .outputs-long))))
 
 larger-requires : tie.Need-larger-requires Inv-loop μ-loop
 larger-requires c κs = tt
@@ -79,11 +56,13 @@ loop-again c =
     let a = start .args in
     let l = at-loop .loop in
     let one : l .i - 1 + 1 ≡ l .i = omega arith in
+    let read = c .before .label-of .ensures
+    ∙ ap (λ (v : ℕ). getD (now (a .labels)) v 0) (c .before .before .node-at .ensures) in
     let turn =
     greatest-more (now (a .labels)) (now (a .outputs)) (a .number) (pre .outputs-long) (l .i - 1) (omega arith) in (
       omega arith,
       c .larger .ensures
-          ∙ ap (max _) (l .inv .1 ∙ ap (greatestFrom (now (a .labels)) (now (a .outputs)) (a .number)) (sym one))
+          ∙ ap₂ max read (l .inv .1 ∙ ap (greatestFrom (now (a .labels)) (now (a .outputs)) (a .number)) (sym one))
           ∙ sym turn,
     )
 
@@ -103,11 +82,8 @@ depth-spec =
     μ-loop
     loop-holds
     sub-i
-    mul-larger
-    shared-slice-read-larger
-    cast-larger
-    mul-larger-2
-    shared-slice-read-larger-2
+    node-at-requires
+    label-of-requires
     larger-requires
     loop-less
     loop-again

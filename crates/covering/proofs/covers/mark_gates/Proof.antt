@@ -19,21 +19,15 @@ loop-holds c =
     let a = c .before .before .args in
     (omega arith, gates-none (now (a .ids)) (a .at) (a .inputs) (now (a .marks)))
 
-add-t9 : tie.Need-add-t9 Inv-loop μ-loop
-add-t9 c =
+add-node-at : tie.Need-add-node-at Inv-loop μ-loop
+add-node-at c =
     let start = c .before .before .before .before in
     let pre = start .pre in
     omega (arith, pre .inside)
 
-mul-t10 : tie.Need-mul-t10 Inv-loop μ-loop
-mul-t10 c =
+node-at-requires : tie.Need-node-at-requires Inv-loop μ-loop
+node-at-requires c κs =
     let start = c .before .before .before .before in
-    let pre = start .pre in
-    omega (arith, pre .inside)
-
-shared-slice-read-t12 : tie.Need-shared-slice-read-t12 Inv-loop μ-loop
-shared-slice-read-t12 c =
-    let start = c .before .before .before .before .before in
     let pre = start .pre in
     omega (arith, pre .inside)
 
@@ -43,7 +37,7 @@ mark-gate-requires c κs =
     let start = at-loop .before .before .before in
     let pre = start .pre in
     let l = at-loop .loop in
-    rw (l .inv .1 .long) (pre .nodes (l .i) (omega arith))
+    rw (c .before .node-at .ensures, l .inv .1 .long) (pre .nodes (l .i) (omega arith))
 
 add-i : tie.Need-add-i Inv-loop μ-loop
 add-i c =
@@ -59,7 +53,8 @@ loop-less c =
 
 loop-again : tie.Need-loop-again Inv-loop μ-loop
 loop-again c =
-    let at-loop = c .before .before .before .before .before .before in
+    let after-node-at = c .before .before .before .before in
+    let at-loop = after-node-at .before .before in
     let start = at-loop .before .before .before in
     let mark-gate = c .before .before .mark-gate in
     let pre = start .pre in
@@ -67,7 +62,7 @@ loop-again c =
     let l = at-loop .loop in (
       omega arith,
       gates-more (now (a .ids)) (a .at) (a .inputs) (now (a .marks)) (a .many) (l .i) pre (omega arith) (l .inv .1)
-          (mark-gate .ensures),
+          (rw (after-node-at .node-at .ensures) at (mark-gate .ensures)),
     )
 
 same-length : tie.Need-same-length Inv-loop μ-loop
@@ -88,9 +83,8 @@ mark-gates-spec =
     Inv-loop
     μ-loop
     loop-holds
-    add-t9
-    mul-t10
-    shared-slice-read-t12
+    add-node-at
+    node-at-requires
     mark-gate-requires
     add-i
     loop-less

@@ -5,7 +5,7 @@ use mathlib.Core.Path.{_≡_, refl, ap, sym, _∙_}
 use mathlib.Core.Bool.{not}
 use lib.ListN.{length}
 use denote.Ref.{now}
-use Rattle.drawing.specs.Bytes.{idsAt, someFrom}
+use Rattle.drawing.specs.paper.Bytes.{idsAt, someFrom}
 use Rattle.drawing.proofs.Ids.{one-less, below-none, below-stop, below-next}
 use Rattle.drawing.proofs.bytes.ids_below.Statement.{statement}
 use Rattle.drawing.proofs.bytes.ids_below.Tie as tie

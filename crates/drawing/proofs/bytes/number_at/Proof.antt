@@ -5,7 +5,7 @@ use native.Mathlib.Omega.{arith}
 use Prim.Native.Nat.{_≤_, _<_, _-_, _*_, _^_}
 use mathlib.Core.Path.{_≡_}
 use denote.Ref.{now}
-use Rattle.drawing.specs.Bytes.{numberAt}
+use Rattle.drawing.specs.paper.Bytes.{numberAt}
 use Rattle.drawing.proofs.Digits.{number-none, number-more, byte-room, word-room}
 use Rattle.drawing.proofs.bytes.number_at.Statement.{statement}
 use Rattle.drawing.proofs.bytes.number_at.Tie as tie

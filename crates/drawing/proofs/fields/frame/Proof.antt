@@ -5,8 +5,8 @@ use mathlib.Core.Path.{_∙_}
 use lib.ListN.{length, getD}
 use denote.Ref.{now}
 use borrow.Author.Tests.{lt-ltb, le-ltb, eq-eqb, ne-eqb}
-use Rattle.drawing.specs.Limits.{frameSize}
-use Rattle.drawing.specs.Bytes.{valueAt, lengthAt}
+use Rattle.drawing.specs.paper.Limits.{frameSize}
+use Rattle.drawing.specs.paper.Bytes.{valueAt, lengthAt}
 use borrow.Author.Needs.{needs}
 use Rattle.drawing.proofs.fields.frame.Statement.{statement}
 use Rattle.drawing.proofs.fields.frame.Tie as tie

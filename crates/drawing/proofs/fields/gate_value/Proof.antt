@@ -4,10 +4,10 @@ use Prim.Native.Nat.{ℕ, _+_, _*_, _^_}
 use mathlib.Core.Path.{_≡_, ap, _∙_}
 use denote.Ref.{now}
 use borrow.Author.Tests.{eq-eqb, ne-eqb, lt-ltb, le-ltb, lt-leb, le-leb}
-use Rattle.drawing.specs.Limits.{rowsSize}
-use Rattle.drawing.specs.Bytes.{lengthAt, valueAt, numberAt}
-use Rattle.drawing.specs.Forms.{gateSize, leastGate, mostGate}
-use Rattle.drawing.specs.Fields.{gateM, gateTable}
+use Rattle.drawing.specs.paper.Limits.{rowsSize}
+use Rattle.drawing.specs.paper.Bytes.{lengthAt, valueAt, numberAt}
+use Rattle.drawing.specs.paper.Forms.{gateSize, leastGate, mostGate}
+use Rattle.drawing.specs.paper.Fields.{gateM, gateTable}
 use Rattle.drawing.proofs.Ids.{twice, ids-tested}
 use borrow.Author.Needs.{needs}
 use Rattle.drawing.proofs.fields.gate_value.Statement.{statement}

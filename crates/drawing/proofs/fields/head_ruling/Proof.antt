@@ -3,7 +3,7 @@ use native.Mathlib.Omega.{arith}
 use mathlib.Core.Path.{sym, _∙_}
 use mathlib.Core.Bool.{false}
 use denote.Ref.{now}
-use Rattle.drawing.specs.Fields.{frameRules, headRules}
+use Rattle.drawing.specs.paper.Fields.{frameRules, headRules}
 use Rattle.drawing.proofs.Verdicts.{frame-fits, refused-first, sound-first}
 use borrow.Author.Needs.{needs}
 use Rattle.drawing.proofs.fields.head_ruling.Statement.{statement}

@@ -5,9 +5,9 @@ use mathlib.Core.Path.{_∙_}
 use denote.Ref.{now}
 use lib.ListN.{getD}
 use borrow.Author.Tests.{eq-eqb, ne-eqb, lt-ltb, le-ltb}
-use Rattle.drawing.specs.Limits.{leastK, mostK, leastInputs, mostInputs, version, versionAt}
-use Rattle.drawing.specs.Bytes.{lengthAt}
-use Rattle.drawing.specs.Fields.{headK, headI, gatesIn}
+use Rattle.drawing.specs.paper.Limits.{leastK, mostK, leastInputs, mostInputs, version, frameSize}
+use Rattle.drawing.specs.paper.Bytes.{lengthAt}
+use Rattle.drawing.specs.paper.Fields.{headK, headI, gatesIn}
 use borrow.Author.Needs.{needs}
 use Rattle.drawing.proofs.fields.head_value.Statement.{statement}
 use Rattle.drawing.proofs.fields.head_value.Tie as tie
@@ -44,7 +44,7 @@ returns-2 c =
     let s = now (a .s) in
     simp (
       eq-eqb (lengthAt s 0) (a .form .size) (omega arith),
-      ne-eqb (getD s versionAt 0) version (λ e. c .if2 .taken (c .before .byte-at3 .ensures .byte ∙ e)),
+      ne-eqb (getD s frameSize 0) version (λ e. c .if2 .taken (c .before .byte-at3 .ensures .byte ∙ e)),
     )
 
 -- src/fields.rt:68:9
@@ -55,7 +55,7 @@ returns-3 c =
     let s = now (a .s) in
     simp (
       eq-eqb (lengthAt s 0) (a .form .size) (omega arith),
-      eq-eqb (getD s versionAt 0) version (omega arith),
+      eq-eqb (getD s frameSize 0) version (omega arith),
       lt-ltb (headK s) leastK (omega arith),
     )
 
@@ -67,7 +67,7 @@ returns-4 c =
     let s = now (a .s) in
     simp (
       eq-eqb (lengthAt s 0) (a .form .size) (omega arith),
-      eq-eqb (getD s versionAt 0) version (omega arith),
+      eq-eqb (getD s frameSize 0) version (omega arith),
       le-ltb (headK s) leastK (omega arith),
       lt-ltb mostK (headK s) (omega arith),
     )
@@ -80,7 +80,7 @@ returns-5 c =
     let s = now (a .s) in
     simp (
       eq-eqb (lengthAt s 0) (a .form .size) (omega arith),
-      eq-eqb (getD s versionAt 0) version (omega arith),
+      eq-eqb (getD s frameSize 0) version (omega arith),
       le-ltb (headK s) leastK (omega arith),
       le-ltb mostK (headK s) (omega arith),
       lt-ltb (headI s) leastInputs (omega arith),
@@ -94,7 +94,7 @@ returns-6 c =
     let s = now (a .s) in
     simp (
       eq-eqb (lengthAt s 0) (a .form .size) (omega arith),
-      eq-eqb (getD s versionAt 0) version (omega arith),
+      eq-eqb (getD s frameSize 0) version (omega arith),
       le-ltb (headK s) leastK (omega arith),
       le-ltb mostK (headK s) (omega arith),
       le-ltb (headI s) leastInputs (omega arith),
@@ -118,7 +118,7 @@ returns-7 c =
     let s = now (a .s) in
     simp (
       eq-eqb (lengthAt s 0) (a .form .size) (omega arith),
-      eq-eqb (getD s versionAt 0) version (omega arith),
+      eq-eqb (getD s frameSize 0) version (omega arith),
       le-ltb (headK s) leastK (omega arith),
       le-ltb mostK (headK s) (omega arith),
       le-ltb (headI s) leastInputs (omega arith),
@@ -135,7 +135,7 @@ returns-8 c =
     let s = now (a .s) in
     simp (
       eq-eqb (lengthAt s 0) (a .form .size) (omega arith),
-      eq-eqb (getD s versionAt 0) version (omega arith),
+      eq-eqb (getD s frameSize 0) version (omega arith),
       le-ltb (headK s) leastK (omega arith),
       le-ltb mostK (headK s) (omega arith),
       le-ltb (headI s) leastInputs (omega arith),
@@ -153,7 +153,7 @@ returns-9 c =
     let s = now (a .s) in
     simp (
       eq-eqb (lengthAt s 0) (a .form .size) (omega arith),
-      eq-eqb (getD s versionAt 0) version (omega arith),
+      eq-eqb (getD s frameSize 0) version (omega arith),
       le-ltb (headK s) leastK (omega arith),
       le-ltb mostK (headK s) (omega arith),
       le-ltb (headI s) leastInputs (omega arith),

@@ -3,7 +3,7 @@ use native.Mathlib.Omega.{arith}
 use mathlib.Core.Path.{sym, _∙_}
 use lib.Dec.{eqb}
 use denote.Ref.{now}
-use Rattle.drawing.specs.Fields.{frameRules, outputRules, outputVerdict}
+use Rattle.drawing.specs.paper.Fields.{frameRules, outputRules, outputVerdict}
 use Rattle.drawing.proofs.Verdicts.{frame-fits, refused-first, sound-first}
 use borrow.Author.Needs.{needs}
 use Rattle.drawing.proofs.fields.output_ruling.Statement.{statement}

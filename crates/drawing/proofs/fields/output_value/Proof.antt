@@ -3,8 +3,8 @@ use native.Mathlib.Omega.{arith}
 use mathlib.Core.Path.{_∙_}
 use denote.Ref.{now}
 use borrow.Author.Tests.{eq-eqb, ne-eqb, le-leb, lt-leb}
-use Rattle.drawing.specs.Bytes.{lengthAt}
-use Rattle.drawing.specs.Fields.{outputId}
+use Rattle.drawing.specs.paper.Bytes.{lengthAt}
+use Rattle.drawing.specs.paper.Fields.{outputId}
 use borrow.Author.Needs.{needs}
 use Rattle.drawing.proofs.fields.output_value.Statement.{statement}
 use Rattle.drawing.proofs.fields.output_value.Tie as tie

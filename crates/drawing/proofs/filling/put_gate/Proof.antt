@@ -5,7 +5,7 @@ use mathlib.Core.Path.{ap, _∙_}
 use mathlib.Core.List.{List}
 use lib.Seq.{sets}
 use denote.Ref.{now}
-use Rattle.drawing.specs.Bytes.{valueAt, idsAt}
+use Rattle.drawing.specs.paper.Bytes.{valueAt, idsAt}
 use Rattle.drawing.proofs.Filled.{gate-put}
 use borrow.Author.Needs.{needs}
 use Rattle.drawing.proofs.filling.put_gate.Statement.{statement}

@@ -5,7 +5,7 @@ use mathlib.Core.Path.{refl, sym, _∙_}
 use lib.ListN.{length}
 use denote.Ref.{now}
 use borrow.Author.Tests.{eq-eqb, ne-eqb}
-use Rattle.drawing.specs.Limits.{mostOutputs}
+use Rattle.drawing.specs.paper.Limits.{mostOutputs}
 use Rattle.drawing.proofs.SoundFields.{output-sound}
 use Rattle.drawing.proofs.Filled.{OutputsLeft, outputs-stop, outputs-all, outputs-turn}
 use borrow.Author.Needs.{needs}

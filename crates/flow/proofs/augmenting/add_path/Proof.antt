@@ -1,6 +1,5 @@
 -- `add_path` meets its contract: the walk back keeps a flow with one path more, whose start is loose until it is an
 -- input.
-use native.Mathlib.Omega.{arith}
 use mathlib.Core.Path.{refl, subst, _∙_}
 use Rattle.storage.specs.Entries.{at}
 use Rattle.storage.proofs.Clears.{beyond-then}
@@ -17,10 +16,10 @@ use Rattle.flow.proofs.augmenting.add_path.Tie as tie
 
 abbrev Inv-loop : tie.InvT-loop
 Inv-loop numbers fanins order roles links₀ loose₀ from₀ links loose from =
-    Augmenting (numbers .inputs) (numbers .nodes) fanins roles links₀ links loose from
+    Augmenting (numbers .inputs) (numbers .nodes) fanins roles links₀ links (loose .id) from
 
 abbrev μ-loop : tie.MeasureT-loop
-μ-loop numbers fanins order roles links₀ loose₀ from₀ links loose from = at (insIn (numbers .nodes) links) loose
+μ-loop numbers fanins order roles links₀ loose₀ from₀ links loose from = at (insIn (numbers .nodes) links) (loose .id)
 
 search-requires : tie.Need-search-requires Inv-loop μ-loop
 search-requires c κs =
@@ -49,10 +48,9 @@ free-requires : tie.Need-free-requires Inv-loop μ-loop
 free-requires c κs =
     let after-search = c .before .before .before .before .before .before in
     let start = after-search .before .before .before .before .before .before in
-    let at-sought = c .before .before in
     let g = start .pre .field .ground in
     let flow = flow-kept (start .pre .flow) (after-search .search .ensures .1) in
-    let end = sought-end (after-search .search .ensures .0) (at-sought .sought .given .1) in
+    let end = sought-end (after-search .search .ensures .0) (c .before .before .sought .given .1) in
     augment-asked g flow end
 
 at-requires : tie.Need-at-requires Inv-loop μ-loop
@@ -77,56 +75,53 @@ loop-holds c =
     let end = sought-end (after-search .search .ensures .0) (after-sought .sought .given .1) in
     augment-starts g flow end (after-free .free .ensures) (c .at .ensures)
 
-sub-t20 : tie.Need-sub-t20 Inv-loop μ-loop
-sub-t20 c =
+node-of-requires : tie.Need-node-of-requires Inv-loop μ-loop
+node-of-requires c κs =
     let start = c .before .before .before .before .before .before .before .before .before .before .before .before
-    .before .before .before .before .before .before .before in
-    let g = start .pre .field .ground in
-    let inv = c .before .loop .inv in
-    omega (arith, parent-node g inv (c .loop-test .taken))
+    .before .before .before .before .before .before .before .before in
+    parent-node (start .pre .field .ground) (c .before .before .loop .inv) (c .before .loop-test .taken)
 
 step-back-requires : tie.Need-step-back-requires Inv-loop μ-loop
 step-back-requires c κs =
-    let start = c .before .before .before .before .before .before .before .before .before .before .before .before
-    .before .before .before .before .before .before .before .before in
-    let at-loop = c .before .before in
+    let at-loop = c .before .before .before in
+    let start = at-loop .before .before .before .before .before .before .before .before .before .before .before .before
+    .before .before .before .before .before .before in
     let g = start .pre .field .ground in
     let inv = at-loop .loop .inv in
-    step-asked g inv (parent-node g inv (c .before .loop-test .taken))
+    step-asked g inv (c .node-of .ensures)
 
 at-requires-2 : tie.Need-at-requires-2 Inv-loop μ-loop
 at-requires-2 c κs =
     let after-step-back = c .before .before .before in
-    let in-loop = after-step-back .before .before in
-    let at-loop = in-loop .before in
+    let after-node-of = after-step-back .before in
+    let at-loop = after-node-of .before .before .before in
     let start = at-loop .before .before .before .before .before .before .before .before .before .before .before .before
     .before .before .before .before .before .before in
     let g = start .pre .field .ground in
     let inv = at-loop .loop .inv in
-    step-cell g inv (parent-node g inv (in-loop .loop-test .taken)) (after-step-back .step-back .ensures)
+    step-cell g inv (after-node-of .node-of .ensures) (after-step-back .step-back .ensures)
 
 loop-less : tie.Need-loop-less Inv-loop μ-loop
 loop-less c =
     let after-step-back = c .before .before .before .before in
-    let in-loop = after-step-back .before .before in
-    let at-loop = in-loop .before in
+    let after-node-of = after-step-back .before in
+    let at-loop = after-node-of .before .before .before in
     let start = at-loop .before .before .before .before .before .before .before .before .before .before .before .before
     .before .before .before .before .before .before in
     let g = start .pre .field .ground in
     let inv = at-loop .loop .inv in
-    step-falls g inv (parent-node g inv (in-loop .loop-test .taken)) (after-step-back .step-back .ensures)
+    step-falls g inv (after-node-of .node-of .ensures) (after-step-back .step-back .ensures)
 
 loop-again : tie.Need-loop-again Inv-loop μ-loop
 loop-again c =
     let after-step-back = c .before .before .before .before in
-    let in-loop = after-step-back .before .before in
-    let at-loop = in-loop .before in
+    let after-node-of = after-step-back .before in
+    let at-loop = after-node-of .before .before .before in
     let start = at-loop .before .before .before .before .before .before .before .before .before .before .before .before
     .before .before .before .before .before .before in
     let g = start .pre .field .ground in
     let inv = at-loop .loop .inv in
-    augment-step g inv (parent-node g inv (in-loop .loop-test .taken)) (after-step-back .step-back .ensures)
-    (c .at2 .ensures)
+    augment-step g inv (after-node-of .node-of .ensures) (after-step-back .step-back .ensures) (c .at2 .ensures)
 
 same-length-2 : tie.Need-same-length-2 Inv-loop μ-loop
 same-length-2 c =
@@ -169,7 +164,7 @@ add-path-spec =
     free-requires
     at-requires
     loop-holds
-    sub-t20
+    node-of-requires
     step-back-requires
     at-requires-2
     loop-less

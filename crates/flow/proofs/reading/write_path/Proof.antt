@@ -10,7 +10,7 @@ use Rattle.flow.proofs.reading.write_path.Tie as tie
 
 abbrev Inv-loop : tie.InvT-loop
 Inv-loop links₀ nodes start v₀ j₀ links v j =
-    Following nodes v₀ links₀ links v j
+    Following nodes (v₀ .id) links₀ links (v .id) j
 
 abbrev μ-loop : tie.MeasureT-loop
 μ-loop links₀ nodes start v₀ j₀ links v j = nodes - j
@@ -47,16 +47,20 @@ returns c =
     let at-loop = in-loop .before in
     follow-stops (at-loop .loop .inv) (in-loop .loop-test .taken) (c .before .link-of .ensures) (c .if1 .taken)
 
+node-of-requires : tie.Need-node-of-requires Inv-loop μ-loop
+node-of-requires c κs = c .if1 .left
+
 loop-less : tie.Need-loop-less Inv-loop μ-loop
 loop-less c =
-    let in-loop = c .before .before .before in
+    let in-loop = c .before .before .before .before in
     omega (arith, in-loop .loop-test .taken)
 
 loop-again : tie.Need-loop-again Inv-loop μ-loop
 loop-again c =
-    let in-loop = c .before .before .before in
+    let in-loop = c .before .before .before .before in
     let at-loop = in-loop .before in
-    follow-turn (at-loop .loop .inv) (in-loop .loop-test .taken) (c .before .link-of .ensures) (c .if1 .left)
+    follow-turn (at-loop .loop .inv) (in-loop .loop-test .taken) (c .before .before .link-of .ensures)
+    (c .node-of .ensures)
 
 same-length-2 : tie.Need-same-length-2 Inv-loop μ-loop
 same-length-2 c = path-long (c .before .loop .inv)
@@ -79,6 +83,7 @@ write-path-spec =
     link-of-requires
     same-length
     returns
+    node-of-requires
     loop-less
     loop-again
     same-length-2

@@ -1,12 +1,9 @@
 -- `put_leaf` meets its contract.
 use native.Mathlib.Omega.{arith}
-use mathlib.Core.Path.{refl, sym, _∙_}
+use mathlib.Core.Path.{refl}
 use native.Mathlib.Numerals.{add-one}
-use Rattle.storage.specs.Entries.{at}
-use Rattle.flow.specs.Links.{insIn, outsIn}
 use Rattle.flow.specs.Rounds.{LeafPut}
-use Rattle.flow.proofs.Rounded.{no-leaf-in, no-leaf-out, is-leaf}
-use denote.Ref.{now}
+use Rattle.flow.proofs.Rounded.{not-entered, was-left, is-leaf}
 use borrow.Author.Needs.{needs}
 use Rattle.flow.proofs.rounds.put_leaf.Statement.{statement}
 use Rattle.flow.proofs.rounds.put_leaf.Tie as tie
@@ -15,74 +12,50 @@ at-requires : tie.Need-at-requires
 at-requires c κs = search needs
 
 returns : tie.Need-returns
-returns c =
-    let start = c .before .before .before .before in
-    let a = start .args in
-    let in-state = at (insIn (a .nodes) (now (a .links))) (a .v .id) in
-    let out-state = at (outsIn (a .nodes) (now (a .links))) (a .v .id) in
-    LeafPut.none (no-leaf-in in-state out-state (sym (c .before .at .ensures) ∙ c .if1 .taken)) refl refl
+returns c = LeafPut.none (not-entered _ (c .before .at .ensures) (c .if1 .taken)) refl refl
 
 at-requires-2 : tie.Need-at-requires-2
 at-requires-2 c κs = search needs
 
 returns-2 : tie.Need-returns-2
 returns-2 c =
-    let start = c .before .before .before .before .before .before in
-    let a = start .args in
-    let in-state = at (insIn (a .nodes) (now (a .links))) (a .v .id) in
-    let out-state = at (outsIn (a .nodes) (now (a .links))) (a .v .id) in
-    LeafPut.none (no-leaf-out in-state out-state (λ none. c .if2 .taken (c .before .at2 .ensures ∙ none))) refl refl
-
-mul-cut : tie.Need-mul-cut
-mul-cut c =
     let after-at = c .before .before .before in
-    let start = after-at .before .before .before in
-    let at-if1 = c .before .before in
-    let a = start .args in
-    let in-state = at (insIn (a .nodes) (now (a .links))) (a .v .id) in
-    let out-state = at (outsIn (a .nodes) (now (a .links))) (a .v .id) in
-    let leaf = is-leaf in-state out-state (λ none. at-if1 .if1 .left (after-at .at .ensures ∙ none))
-    (sym (c .before .at2 .ensures) ∙ c .if2 .left) in
-    omega (arith, start .pre .room leaf)
+    LeafPut.none (was-left (after-at .at .ensures) (c .before .at2 .ensures) (c .if2 .taken)) refl refl
 
-slice-write-cut : tie.Need-slice-write-cut
-slice-write-cut c =
-    let after-at = c .before .before .before in
+put-node-requires : tie.Need-put-node-requires
+put-node-requires c κs =
+    let else1 = c .before .before .before in
+    let after-at = else1 .before in
     let start = after-at .before .before .before in
-    let at-if1 = c .before .before in
-    let a = start .args in
-    let in-state = at (insIn (a .nodes) (now (a .links))) (a .v .id) in
-    let out-state = at (outsIn (a .nodes) (now (a .links))) (a .v .id) in
-    let leaf = is-leaf in-state out-state (λ none. at-if1 .if1 .left (after-at .at .ensures ∙ none))
-    (sym (c .before .at2 .ensures) ∙ c .if2 .left) in
-    start .pre .room leaf
+    start .pre .room
+    (is-leaf (after-at .at .ensures) (c .before .before .at2 .ensures) (else1 .if1 .left) (c .before .if2 .left))
 
 add-result : tie.Need-add-result
 add-result c =
-    let after-at = c .before .before .before in
+    let else2 = c .before .before .before .before in
+    let after-at2 = else2 .before in
+    let else1 = after-at2 .before in
+    let after-at = else1 .before in
     let start = after-at .before .before .before in
-    let at-if1 = c .before .before in
-    let a = start .args in
-    let in-state = at (insIn (a .nodes) (now (a .links))) (a .v .id) in
-    let out-state = at (outsIn (a .nodes) (now (a .links))) (a .v .id) in
-    let leaf = is-leaf in-state out-state (λ none. at-if1 .if1 .left (after-at .at .ensures ∙ none))
-    (sym (c .before .at2 .ensures) ∙ c .if2 .left) in
-    omega (arith, start .pre .room leaf)
+    omega (
+      arith,
+      start .good,
+      start .pre .room
+          (is-leaf (after-at .at .ensures) (after-at2 .at2 .ensures) (else1 .if1 .left) (else2 .if2 .left)),
+    )
 
 same-length : tie.Need-same-length
 same-length c = search needs
 
 returns-3 : tie.Need-returns-3
 returns-3 c =
-    let after-at = c .before .before .before in
+    let else2 = c .before .before .before .before in
+    let after-at2 = else2 .before in
+    let else1 = after-at2 .before in
+    let after-at = else1 .before in
     let start = after-at .before .before .before in
-    let at-if1 = c .before .before in
-    let a = start .args in
-    let in-state = at (insIn (a .nodes) (now (a .links))) (a .v .id) in
-    let out-state = at (outsIn (a .nodes) (now (a .links))) (a .v .id) in
-    let leaf = is-leaf in-state out-state (λ none. at-if1 .if1 .left (after-at .at .ensures ∙ none))
-    (sym (c .before .at2 .ensures) ∙ c .if2 .left) in
-    LeafPut.put leaf (add-one (a .j)) refl
+    LeafPut.put (is-leaf (after-at .at .ensures) (after-at2 .at2 .ensures) (else1 .if1 .left) (else2 .if2 .left))
+    (add-one (start .args .j)) (c .before .before .put-node .ensures)
 
 pub put-leaf-spec : {M : Type 1} → statement M
 put-leaf-spec =
@@ -92,8 +65,7 @@ put-leaf-spec =
     returns
     at-requires-2
     returns-2
-    mul-cut
-    slice-write-cut
+    put-node-requires
     add-result
     same-length
     returns-3)

@@ -32,8 +32,7 @@ loop-holds c =
 add-path-requires : tie.Need-add-path-requires Inv-loop μ-loop
 add-path-requires c κs =
     let start = c .before .before .before .before .before .before .before .before .before .before .before .before in
-    let at-loop = c .before .before in
-    round-asked (at-loop .loop .inv) (start .pre .field)
+    round-asked (c .before .before .loop .inv) (start .pre .field)
 
 same-length : tie.Need-same-length Inv-loop μ-loop
 same-length c =
@@ -52,7 +51,8 @@ returns c =
     let after-clear = at-loop .before .before .before .before in
     let f = round-full (at-loop .loop .inv) (after-add-path .add-path .ensures .0)
     (not-true (after-add-path .add-path .result) (c .if1 .taken)) in (
-      Ran.full (at-loop .loop .number) (f .0) refl (omega (arith, in-loop .loop-test .taken)) (f .1) (f .2) (f .3),
+      Ran.full (record { leaves = at-loop .loop .number }) (f .0) refl (omega (arith, in-loop .loop-test .taken))
+          (f .1) (f .2) (f .3),
       beyond-then (after-clear .clear .ensures .rest)
           (beyond-then (at-loop .loop .inv .rest) (after-add-path .add-path .ensures .1)),
     )

@@ -2,7 +2,6 @@
 use native.Mathlib.Omega.{arith}
 use Prim.Native.Nat.{ℕ, _≤_, _<_, _-_}
 use mathlib.Core.Path.{_≡_, ap}
-use native.Mathlib.Numerals.{add-two}
 use borrow.Author.Count.{below-more}
 use Rattle.storage.specs.Entries.{at}
 use Rattle.storage.specs.Lists.{entryAt}
@@ -34,32 +33,33 @@ entry-at-requires c κs =
 at-requires : tie.Need-at-requires Inv-loop μ-loop
 at-requires c κs =
     let start = c .before .before .before .before .before .before in
-    let at-loop = c .before .before in
     let p = start .pre in
     record {
       small = p .small;
       long = p .long;
       one-of-five = omega arith;
-      node = entry-known (p .fed) (at-loop .loop .i) (omega arith) (c .entry-at .ensures);
+      node = entry-known (p .fed) (c .before .before .loop .i) (omega arith) (c .entry-at .ensures);
     }
 
-add-result : tie.Need-add-result Inv-loop μ-loop
-add-result c =
-    let after-entry-at = c .before .before .before in
-    let at-loop = after-entry-at .before .before in
+link-to-requires : tie.Need-link-to-requires Inv-loop μ-loop
+link-to-requires c κs =
+    let at-loop = c .before .before .before .before in
     let start = at-loop .before .before .before .before in
     let p = start .pre in
-    omega (arith, p .small, entry-known (p .fed) (at-loop .loop .i) (omega arith) (after-entry-at .entry-at .ensures))
+    omega (
+      arith,
+      p .small,
+      entry-known (p .fed) (at-loop .loop .i) (omega arith) (c .before .before .entry-at .ensures),
+    )
 
 returns : tie.Need-returns Inv-loop μ-loop
 returns c =
     let after-entry-at = c .before .before .before in
     let at-loop = after-entry-at .before .before in
     let start = at-loop .before .before .before .before in
-    let at-at = c .before .before in
     FaninFound.some (after-entry-at .entry-at .result .id)
     (entry-feeds (start .pre .fed) (at-loop .loop .i) (omega arith) (after-entry-at .entry-at .ensures))
-    (add-two (after-entry-at .entry-at .result .id)) (omega (arith, at-at .at .ensures))
+    (c .link-to .ensures) (omega (arith, c .before .before .at .ensures))
 
 add-i : tie.Need-add-i Inv-loop μ-loop
 add-i c =
@@ -73,12 +73,11 @@ loop-again : tie.Need-loop-again Inv-loop μ-loop
 loop-again c =
     let at-loop = c .before .before .before .before in
     let start = at-loop .before .before .before .before in
-    let at-entry-at = c .before .before in
     let a = start .args in
     let outs = at (outsIn (a .numbers .nodes) (now (a .links))) in (
       omega arith,
       below-more (λ j. outs (entryAt (now (a .fanins)) (a .v .id) j) ≡ 0) (at-loop .loop .i) (at-loop .loop .inv .1)
-          (omega (arith, c .before .at .ensures, ap outs (at-entry-at .entry-at .ensures))),
+          (omega (arith, c .before .at .ensures, ap outs (c .before .before .entry-at .ensures))),
     )
 
 returns-2 : tie.Need-returns-2 Inv-loop μ-loop
@@ -98,7 +97,7 @@ found-fanin-spec =
     loop-holds
     entry-at-requires
     at-requires
-    add-result
+    link-to-requires
     returns
     add-i
     loop-less

@@ -41,14 +41,13 @@ cast-t16 c =
 visit-input-requires : tie.Need-visit-input-requires Inv-loop μ-loop Inv-loop2 μ-loop2
 visit-input-requires c κs =
     let start = c .before .before .before .before .before .before .before in
-    let at-loop = c .before .before in
     let f = start .pre .field in
     record {
       inputs = start .args .numbers .inputs;
       fanins = now (start .args .fanins);
       visit = record {
         ground = f .ground;
-        searched = at-loop .loop .inv .searched;
+        searched = c .before .before .loop .inv .searched;
         low = omega (arith, order-size f, c .before .loop-test .taken);
       };
       input = c .before .loop-test .taken;
@@ -130,50 +129,42 @@ sub-gates c =
 loop2-holds : tie.Need-loop2-holds Inv-loop μ-loop Inv-loop2 μ-loop2
 loop2-holds c = sweep-starts (c .before .loop .inv .searched)
 
-mul-t23 : tie.Need-mul-t23 Inv-loop μ-loop Inv-loop2 μ-loop2
-mul-t23 c =
+node-at-requires : tie.Need-node-at-requires Inv-loop μ-loop Inv-loop2 μ-loop2
+node-at-requires c κs =
     let start = c .before .before .before .before .before .before .before .before in
     let f = start .pre .field in
     let low : c .before .loop2 .j < length (now (start .args .order)) =
     omega (arith, order-size f, c .loop2-test .taken) in
-    omega (arith, low)
-
-shared-slice-read-t25 : tie.Need-shared-slice-read-t25 Inv-loop μ-loop Inv-loop2 μ-loop2
-shared-slice-read-t25 c =
-    let start = c .before .before .before .before .before .before .before .before .before in
-    let at-loop2 = c .before .before in
-    let f = start .pre .field in
-    let low : at-loop2 .loop2 .j < length (now (start .args .order)) =
-    omega (arith, order-size f, c .before .loop2-test .taken) in
     low
 
 visit-gate-requires : tie.Need-visit-gate-requires Inv-loop μ-loop Inv-loop2 μ-loop2
 visit-gate-requires c κs =
     let at-loop2 = c .before .before .before in
     let start = at-loop2 .before .before .before .before .before .before .before in
-    let at-loop2-test = c .before .before in
     let f = start .pre .field in
     let low : at-loop2 .loop2 .j < length (now (start .args .order)) =
-    omega (arith, order-size f, at-loop2-test .loop2-test .taken) in
+    omega (arith, order-size f, c .before .before .loop2-test .taken) in
     record {
       visit = record {
         ground = f .ground;
         searched = at-loop2 .loop2 .inv .searched;
-        low = gate-below f (at-loop2 .loop2 .j) low;
+        low = rw (c .before .node-at .ensures) (gate-below f (at-loop2 .loop2 .j) low);
       };
-      gate = gate-above f (at-loop2 .loop2 .j) low;
+      gate = rw (c .before .node-at .ensures) (gate-above f (at-loop2 .loop2 .j) low);
     }
 
 is-reached-requires-2 : tie.Need-is-reached-requires-2 Inv-loop μ-loop Inv-loop2 μ-loop2
 is-reached-requires-2 c κs =
     let after-visit-gate = c .before .before .before in
-    let in-loop2 = after-visit-gate .before .before .before in
+    let after-node-at = after-visit-gate .before .before in
+    let in-loop2 = after-node-at .before in
     let at-loop2 = in-loop2 .before in
     let start = at-loop2 .before .before .before .before .before .before .before in
     let f = start .pre .field in
     let low : at-loop2 .loop2 .j < length (now (start .args .order)) =
     omega (arith, order-size f, in-loop2 .loop2-test .taken) in
-    end-asked f (after-visit-gate .visit-gate .ensures .searched) (gate-below f (at-loop2 .loop2 .j) low)
+    end-asked f (after-visit-gate .visit-gate .ensures .searched)
+    (rw (after-node-at .node-at .ensures) (gate-below f (at-loop2 .loop2 .j) low))
 
 same-length-2 : tie.Need-same-length-2 Inv-loop μ-loop Inv-loop2 μ-loop2
 same-length-2 c =
@@ -218,9 +209,10 @@ loop2-less c =
 loop2-again : tie.Need-loop2-again Inv-loop μ-loop Inv-loop2 μ-loop2
 loop2-again c =
     let after-visit-gate = c .before .before .before .before .before in
-    let at-loop2 = after-visit-gate .before .before .before .before in
-    sweep-turn (at-loop2 .loop2 .inv) refl (after-visit-gate .visit-gate .ensures) (c .before .is-reached2 .ensures)
-    (c .if2 .left)
+    let after-node-at = after-visit-gate .before .before in
+    let at-loop2 = after-node-at .before .before in
+    sweep-turn (at-loop2 .loop2 .inv) (after-node-at .node-at .ensures) (after-visit-gate .visit-gate .ensures)
+    (c .before .is-reached2 .ensures) (c .if2 .left)
 
 same-length-3 : tie.Need-same-length-3 Inv-loop μ-loop Inv-loop2 μ-loop2
 same-length-3 c =
@@ -231,12 +223,11 @@ returns-3 : tie.Need-returns-3 Inv-loop μ-loop Inv-loop2 μ-loop2
 returns-3 c =
     let at-loop = c .before .before .before in
     let start = at-loop .before .before .before .before .before in
-    let at-loop-test = c .before .before in
     let f = start .pre .field in
     let a = at-loop .loop .inv in
     let b = c .before .loop2 .inv in (
       SweptSo.up-to (c .before .loop2 .last) refl (b .searched) (omega (arith, a .onward, b .onward))
-          (sweep-settles f a (omega (arith, at-loop-test .loop-test .left)) b
+          (sweep-settles f a (omega (arith, c .before .before .loop-test .left)) b
           (omega (arith, order-size f, c .loop2-test .left))),
       paths-then (a .kept) (b .kept),
     )
@@ -260,8 +251,7 @@ sweep-spec =
     loop-again
     sub-gates
     loop2-holds
-    mul-t23
-    shared-slice-read-t25
+    node-at-requires
     visit-gate-requires
     is-reached-requires-2
     same-length-2

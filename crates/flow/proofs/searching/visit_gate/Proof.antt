@@ -9,8 +9,8 @@ use borrow.Author.Needs.{needs}
 use Rattle.flow.proofs.searching.visit_gate.Statement.{statement}
 use Rattle.flow.proofs.searching.visit_gate.Tie as tie
 
-is-inside-requires : tie.Need-is-inside-requires
-is-inside-requires c κs =
+is-free-requires : tie.Need-is-free-requires
+is-free-requires c κs =
     let start = c .before .before .before in
     omega (arith, start .pre .visit .ground .roles-long, start .pre .visit .low)
 
@@ -20,7 +20,7 @@ returns c =
     let a = start .args in
     let s = start .pre .visit in
     visit-none (s .ground) (s .searched)
-    (unmarked (at (areaIn (now (a .roles))) (a .v .id)) (c .before .is-inside .ensures) (c .if1 .taken))
+    (unmarked (at (areaIn (now (a .roles))) (a .v .id)) (c .before .is-free .ensures) (c .if1 .taken))
 
 enter-gate-requires : tie.Need-enter-gate-requires
 enter-gate-requires c κs =
@@ -32,11 +32,11 @@ leave-requires : tie.Need-leave-requires
 leave-requires c κs =
     let after-enter-gate = c .before .before .before in
     let else1 = after-enter-gate .before .before in
-    let after-is-inside = else1 .before in
-    let start = after-is-inside .before .before .before .before in
+    let after-is-free = else1 .before in
+    let start = after-is-free .before .before .before .before in
     let a = start .args in
     let inside =
-    marked (at (areaIn (now (a .roles))) (a .v .id)) (after-is-inside .is-inside .ensures) (else1 .if1 .left) in
+    marked (at (areaIn (now (a .roles))) (a .v .id)) (after-is-free .is-free .ensures) (else1 .if1 .left) in
     let s = start .pre .visit in
     leave-asked (s .ground) (s .low) (visit-in (s .ground) (s .searched) inside (after-enter-gate .enter-gate .ensures))
 
@@ -47,20 +47,20 @@ returns-2 : tie.Need-returns-2
 returns-2 c =
     let after-enter-gate = c .before .before .before .before .before .before in
     let else1 = after-enter-gate .before .before in
-    let after-is-inside = else1 .before in
-    let start = after-is-inside .before .before .before .before in
-    let at-leave = c .before .before in
+    let after-is-free = else1 .before in
+    let start = after-is-free .before .before .before .before in
     let a = start .args in
     let inside =
-    marked (at (areaIn (now (a .roles))) (a .v .id)) (after-is-inside .is-inside .ensures) (else1 .if1 .left) in
+    marked (at (areaIn (now (a .roles))) (a .v .id)) (after-is-free .is-free .ensures) (else1 .if1 .left) in
     let s = start .pre .visit in
-    visit-both (s .ground) (s .searched) inside (after-enter-gate .enter-gate .ensures) (at-leave .leave .ensures)
+    visit-both (s .ground) (s .searched) inside (after-enter-gate .enter-gate .ensures)
+    (c .before .before .leave .ensures)
 
 pub visit-gate-spec : {M : Type 1} → statement M
 visit-gate-spec =
     tie.close
     (tie.spec
-    is-inside-requires
+    is-free-requires
     returns
     enter-gate-requires
     leave-requires

@@ -11,8 +11,8 @@ use borrow.Author.Needs.{needs}
 use Rattle.flow.proofs.searching.visit_input.Statement.{statement}
 use Rattle.flow.proofs.searching.visit_input.Tie as tie
 
-is-inside-requires : tie.Need-is-inside-requires
-is-inside-requires c κs =
+is-free-requires : tie.Need-is-free-requires
+is-free-requires c κs =
     omega (arith, c .before .before .pre .visit .ground .roles-long, c .before .before .pre .visit .low)
 
 returns : tie.Need-returns
@@ -20,7 +20,7 @@ returns c =
     let start = c .before .before .before .before in
     let a = start .args in
     InputVisited.outside
-    (unmarked (at (areaIn (now (a .roles))) (a .v .id)) (c .before .is-inside .ensures) (c .if1 .taken)) refl refl
+    (unmarked (at (areaIn (now (a .roles))) (a .v .id)) (c .before .is-free .ensures) (c .if1 .taken)) refl refl
 
 enter-input-requires : tie.Need-enter-input-requires
 enter-input-requires c κs =
@@ -34,11 +34,11 @@ leave-requires : tie.Need-leave-requires
 leave-requires c κs =
     let after-enter-input = c .before .before .before in
     let else1 = after-enter-input .before .before in
-    let after-is-inside = else1 .before in
-    let start = after-is-inside .before .before .before in
+    let after-is-free = else1 .before in
+    let start = after-is-free .before .before .before in
     let a = start .args in
     let inside =
-    marked (at (areaIn (now (a .roles))) (a .v .id)) (after-is-inside .is-inside .ensures) (else1 .if1 .left) in
+    marked (at (areaIn (now (a .roles))) (a .v .id)) (after-is-free .is-free .ensures) (else1 .if1 .left) in
     let p = start .pre in
     let s = p .visit in
     leave-asked (s .ground) (s .low)
@@ -51,19 +51,18 @@ returns-2 : tie.Need-returns-2
 returns-2 c =
     let after-enter-input = c .before .before .before .before .before .before in
     let else1 = after-enter-input .before .before in
-    let after-is-inside = else1 .before in
-    let start = after-is-inside .before .before .before in
-    let at-leave = c .before .before in
+    let after-is-free = else1 .before in
+    let start = after-is-free .before .before .before in
     let a = start .args in
     let inside =
-    marked (at (areaIn (now (a .roles))) (a .v .id)) (after-is-inside .is-inside .ensures) (else1 .if1 .left) in
-    InputVisited.inside _ _ inside (after-enter-input .enter-input .ensures) (at-leave .leave .ensures)
+    marked (at (areaIn (now (a .roles))) (a .v .id)) (after-is-free .is-free .ensures) (else1 .if1 .left) in
+    InputVisited.inside _ _ inside (after-enter-input .enter-input .ensures) (c .before .before .leave .ensures)
 
 pub visit-input-spec : {M : Type 1} → statement M
 visit-input-spec =
     tie.close
     (tie.spec
-    is-inside-requires
+    is-free-requires
     returns
     enter-input-requires
     leave-requires

@@ -46,11 +46,11 @@ returns-3 c =
     enter-none (a .numbers .inputs) (now (a .fanins)) (nextIn n l) (outsIn n l) (a .v .id)
     (after-found-fanin .found-fanin .ensures) (omega arith) (start .pre .gate) (λ used. omega arith)
 
-add-result : tie.Need-add-result
-add-result c = search needs
+link-to-requires : tie.Need-link-to-requires
+link-to-requires c κs = search needs
 
 returns-4 : tie.Need-returns-4
-returns-4 c = Entered.own (omega arith) (omega arith) (omega arith)
+returns-4 c = Entered.own (c .link-to .ensures) (omega arith) (omega arith)
 
 pub way-in-spec : {M : Type 1} → statement M
 way-in-spec =
@@ -62,5 +62,5 @@ way-in-spec =
     returns-2
     at-requires-2
     returns-3
-    add-result
+    link-to-requires
     returns-4)

@@ -8,7 +8,7 @@ use denote.Ref.{now}
 use borrow.Author.Needs.{needs}
 use borrow.Author.Tests.{not-true, not-false}
 use Rattle.storage.proofs.Clears.{beyond-same}
-use Rattle.drawing.specs.Bytes.{numberAt}
+use Rattle.drawing.specs.paper.Bytes.{numberAt}
 use Rattle.judging.specs.Gates.{pathsPlace}
 use Rattle.judging.proofs.Lines.{place-asks, q-inside-bytes}
 use Rattle.judging.proofs.Kept.{label-inside, evidence-asked, not-due-told, miscounted, due-told, q-read}

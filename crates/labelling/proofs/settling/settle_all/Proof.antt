@@ -25,20 +25,18 @@ sub-gates c =
 loop-holds : tie.Need-loop-holds Inv-loop μ-loop
 loop-holds c = (omega arith, along-none _ _ _ _ _ _ _ _ _)
 
-mul-t12 : tie.Need-mul-t12 Inv-loop μ-loop
-mul-t12 c = omega arith
-
-shared-slice-read-t14 : tie.Need-shared-slice-read-t14 Inv-loop μ-loop
-shared-slice-read-t14 c =
-    let start = c .before .before .before .before .before .before .before .before .before .before in
+node-at-requires : tie.Need-node-at-requires Inv-loop μ-loop
+node-at-requires c κs =
+    let start = c .before .before .before .before .before .before .before .before .before in
     omega (arith, start .pre .drawing .order-long)
 
 settle-requires : tie.Need-settle-requires Inv-loop μ-loop
 settle-requires c κs =
-    let in-loop = c .before .before .before .before .before in
+    let after-node-at = c .before .before .before .before in
+    let in-loop = after-node-at .before in
     let at-loop = in-loop .before in
     let start = at-loop .before .before .before .before .before .before .before .before in
-    turn-asked (start .pre) (in-loop .loop-test .taken) (at-loop .loop .inv .1)
+    rw (after-node-at .node-at .ensures) (turn-asked (start .pre) (in-loop .loop-test .taken) (at-loop .loop .inv .1))
 
 add-i : tie.Need-add-i Inv-loop μ-loop
 add-i c =
@@ -56,17 +54,20 @@ loop-less c =
 loop-again : tie.Need-loop-again Inv-loop μ-loop
 loop-again c =
     let after-settle = c .before .before .before .before .before .before .before .before in
-    let in-loop = after-settle .before .before .before .before .before .before in
+    let after-node-at = after-settle .before .before .before .before .before in
+    let in-loop = after-node-at .before in
     let at-loop = in-loop .before in
     let start = at-loop .before .before .before .before .before .before .before .before in
-    let less = in-loop .loop-test .taken in
-    (omega (arith, less), along-more (start .pre) less (at-loop .loop .inv .1) (after-settle .settle .ensures))
+    let less = in-loop .loop-test .taken in (
+      omega (arith, less),
+      along-more (start .pre) less (at-loop .loop .inv .1)
+          (rw (after-node-at .node-at .ensures) at (after-settle .settle .ensures)),
+    )
 
 same-length : tie.Need-same-length Inv-loop μ-loop
 same-length c =
     let start = c .before .before .before .before .before .before .before .before .before in
-    let at-loop = c .before in
-    labels-size (start .pre) (at-loop .loop .inv .1)
+    labels-size (start .pre) (c .before .loop .inv .1)
 
 same-length-2 : tie.Need-same-length-2 Inv-loop μ-loop
 same-length-2 c =
@@ -90,8 +91,7 @@ settle-all-spec =
     μ-loop
     sub-gates
     loop-holds
-    mul-t12
-    shared-slice-read-t14
+    node-at-requires
     settle-requires
     add-i
     loop-less

@@ -2,7 +2,8 @@
 use borrow.Author.Needs.{needs}
 use native.Mathlib.Omega.{arith}
 use mathlib.Core.Path.{_∙_}
-use Rattle.mapping.proofs.DrawingsMapped.{words-long, sheet-asked, drawing-mapped}
+use Rattle.settling.proofs.Standing.{words-long}
+use Rattle.mapping.proofs.DrawingsMapped.{sheet-asked, drawing-mapped}
 use Rattle.mapping.proofs.sheets.map_drawing.Statement.{statement}
 use Rattle.mapping.proofs.sheets.map_drawing.Tie as tie
 

@@ -1,77 +1,86 @@
 -- `frame` meets its contract: at each `return` the tests passed so far say which rule is the first.
 use Prim.Native.Nat.{_-_}
 use mathlib.Core.Path.{_∙_}
-use denote.Ref.{now}
-use lib.ListN.{length, getD}
-use borrow.Author.Tests.{lt-ltb, le-ltb, eq-eqb, ne-eqb}
-use Rattle.drawing.specs.Bytes.{lengthAt, valueAt}
 use native.Mathlib.Omega.{arith}
+use lib.ListN.{length}
+use denote.Ref.{now}
+use borrow.Author.Tests.{lt-ltb, le-ltb, eq-eqb, ne-eqb}
+use Rattle.drawing.specs.paper.Limits.{frameSize}
+use Rattle.drawing.specs.paper.Bytes.{tagAt, lengthAt, valueAt}
+use Rattle.shaping.proofs.Rulings.{field-short, field-begun}
 use borrow.Author.Needs.{needs}
 use Rattle.shaping.proofs.fields.frame.Statement.{statement}
 use Rattle.shaping.proofs.fields.frame.Tie as tie
 
-sub-if1 : tie.Need-sub-if1
-sub-if1 c = search needs
+enum-told : tie.Need-enum-told
+enum-told c = search needs
+
+enum-known-field : tie.Need-enum-known-field
+enum-known-field c = search needs
 
 returns : tie.Need-returns
 returns c =
-    let a = c .before .before .args in
-    simp (lt-ltb (length (now (a .sheet)) - a .at) 3 (omega arith))
+    let after-field = c .before .before .before in
+    let start = after-field .before .before in
+    let s = now (start .args .sheet) in
+    let at = start .args .at in
+    let begun = field-begun s at (start .pre) (after-field .field .given .1) in
+    simp (
+      le-ltb (length s - at) frameSize (begun .long),
+      ne-eqb (tagAt s at) (start .args .tag) (λ e. c .if1 .taken (begun .tag ∙ e)),
+    )
 
-byte-at-requires : tie.Need-byte-at-requires
-byte-at-requires c κs = search needs
+add-if2 : tie.Need-add-if2
+add-if2 c =
+    let after-field = c .before .before .before in
+    let start = after-field .before .before in
+    omega (
+      arith,
+      start .good,
+      field-begun (now (start .args .sheet)) (start .args .at) (start .pre) (after-field .field .given .1) .long,
+    )
+
+sub-if2 : tie.Need-sub-if2
+sub-if2 c =
+    let after-field = c .before .before .before in
+    let start = after-field .before .before in
+    omega (
+      arith,
+      field-begun (now (start .args .sheet)) (start .args .at) (start .pre) (after-field .field .given .1) .long,
+    )
 
 returns-2 : tie.Need-returns-2
 returns-2 c =
-    let start = c .before .before .before .before in
-    let a = start .args in
-    let s = now (a .sheet) in
+    let after-field = c .before .before .before .before .before in
+    let start = after-field .before .before in
+    let s = now (start .args .sheet) in
+    let at = start .args .at in
+    let begun = field-begun s at (start .pre) (after-field .field .given .1) in
     simp (
-      le-ltb (length s - a .at) 3 (omega arith),
-      ne-eqb (getD s (a .at) 0) (a .tag) (λ e. c .if2 .taken (c .before .byte-at .ensures .byte ∙ e)),
+      le-ltb (length s - at) frameSize (begun .long),
+      eq-eqb (tagAt s at) (start .args .tag) (omega (arith, begun .tag)),
+      lt-ltb (length s - valueAt at) (lengthAt s at) (omega (arith, begun .size)),
     )
-
-add-if3 : tie.Need-add-if3
-add-if3 c = search needs
-
-sub-if3 : tie.Need-sub-if3
-sub-if3 c = search needs
-
-length-at-requires : tie.Need-length-at-requires
-length-at-requires c κs = search needs
 
 returns-3 : tie.Need-returns-3
 returns-3 c =
-    let start = c .before .before .before .before .before .before in
-    let a = start .args in
-    let s = now (a .sheet) in
-    simp (
-      le-ltb (length s - a .at) 3 (omega arith),
-      eq-eqb (getD s (a .at) 0) (a .tag) (omega arith),
-      lt-ltb (length s - valueAt (a .at)) (lengthAt s (a .at)) (omega arith),
-    )
+    let s = now (c .before .before .args .sheet) in
+    simp
+    (lt-ltb (length s - c .before .before .args .at) frameSize
+    (field-short s (c .before .before .args .at) (c .before .before .pre) (c .enum-told .given .1)))
 
 returns-4 : tie.Need-returns-4
 returns-4 c =
-    let start = c .before .before .before .before .before .before in
-    let a = start .args in
-    let s = now (a .sheet) in
+    let after-field = c .before .before .before .before .before in
+    let start = after-field .before .before in
+    let s = now (start .args .sheet) in
+    let at = start .args .at in
+    let begun = field-begun s at (start .pre) (after-field .field .given .1) in
     simp (
-      le-ltb (length s - a .at) 3 (omega arith),
-      eq-eqb (getD s (a .at) 0) (a .tag) (omega arith),
-      le-ltb (length s - valueAt (a .at)) (lengthAt s (a .at)) (omega arith),
+      le-ltb (length s - at) frameSize (begun .long),
+      eq-eqb (tagAt s at) (start .args .tag) (omega (arith, begun .tag)),
+      le-ltb (length s - valueAt at) (lengthAt s at) (omega (arith, begun .size)),
     )
 
 pub frame-spec : {M : Type 1} → statement M
-frame-spec =
-    tie.close
-    (tie.spec
-    sub-if1
-    returns
-    byte-at-requires
-    returns-2
-    add-if3
-    sub-if3
-    length-at-requires
-    returns-3
-    returns-4)
+frame-spec = tie.close (tie.spec enum-told enum-known-field returns add-if2 sub-if2 returns-2 returns-3 returns-4)

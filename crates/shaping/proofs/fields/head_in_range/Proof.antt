@@ -15,40 +15,41 @@ returns c =
     let start = c .before .before .before in
     head-version (dueOf (start .args .terms)) (now (start .args .sheet)) (c .before .small-at .ensures) (c .if1 .taken)
 
-small-at-requires-2 : tie.Need-small-at-requires-2
-small-at-requires-2 c κs = search needs
+label-at-requires : tie.Need-label-at-requires
+label-at-requires c κs = search needs
 
 returns-2 : tie.Need-returns-2
 returns-2 c =
-    let after-small-at = c .before .before .before .before in
+    let after-label-at = c .before .before .before in
+    let after-small-at = after-label-at .before .before in
     let start = after-small-at .before .before in
     head-deep (dueOf (start .args .terms)) (now (start .args .sheet)) (after-small-at .small-at .ensures)
-    (c .before .before .small-at2 .ensures) (omega arith) (omega arith)
+    (after-label-at .label-at .ensures) (omega arith) (omega arith)
 
 sub-if3 : tie.Need-sub-if3
-sub-if3 c = search needs
+sub-if3 c = omega arith
 
 add-small-at : tie.Need-add-small-at
-add-small-at c = search needs
+add-small-at c = omega arith
 
-small-at-requires-3 : tie.Need-small-at-requires-3
-small-at-requires-3 c κs = search needs
+small-at-requires-2 : tie.Need-small-at-requires-2
+small-at-requires-2 c κs = search needs
 
 returns-3 : tie.Need-returns-3
 returns-3 c =
-    let after-small-at2 = c .before .before .before .before .before in
-    let after-small-at = after-small-at2 .before .before in
+    let after-label-at = c .before .before .before .before .before .before in
+    let after-small-at = after-label-at .before .before in
     let start = after-small-at .before .before in
     head-many (dueOf (start .args .terms)) (now (start .args .sheet)) (after-small-at .small-at .ensures)
-    (after-small-at2 .small-at2 .ensures) (omega arith) (c .before .small-at3 .ensures) (omega arith) (omega arith)
+    (after-label-at .label-at .ensures) (omega arith) (c .before .small-at2 .ensures) (omega arith) (omega arith)
 
 returns-4 : tie.Need-returns-4
 returns-4 c =
-    let after-small-at2 = c .before .before .before .before .before in
-    let after-small-at = after-small-at2 .before .before in
+    let after-label-at = c .before .before .before .before .before .before in
+    let after-small-at = after-label-at .before .before in
     let start = after-small-at .before .before in
     head-good (dueOf (start .args .terms)) (now (start .args .sheet)) (after-small-at .small-at .ensures)
-    (after-small-at2 .small-at2 .ensures) (omega arith) (c .before .small-at3 .ensures) (omega arith) (omega arith)
+    (after-label-at .label-at .ensures) (omega arith) (c .before .small-at2 .ensures) (omega arith) (omega arith)
 
 pub head-in-range-spec : {M : Type 1} → statement M
 head-in-range-spec =
@@ -56,10 +57,10 @@ head-in-range-spec =
     (tie.spec
     small-at-requires
     returns
-    small-at-requires-2
+    label-at-requires
     returns-2
     sub-if3
     add-small-at
-    small-at-requires-3
+    small-at-requires-2
     returns-3
     returns-4)

@@ -3,15 +3,14 @@ use denote.Ref.{now}
 use Rattle.shaping.specs.Terms.{dueOf}
 use Rattle.shaping.proofs.Values.{lut-parts, lut-low, lut-high, lut-told}
 use native.Mathlib.Omega.{arith}
-use borrow.Author.Needs.{needs}
 use Rattle.shaping.proofs.fields.lut_in_range.Statement.{statement}
 use Rattle.shaping.proofs.fields.lut_in_range.Tie as tie
 
-add-small-at : tie.Need-add-small-at
-add-small-at c = search needs
+add-node-at : tie.Need-add-node-at
+add-node-at c = omega arith
 
-small-at-requires : tie.Need-small-at-requires
-small-at-requires c κs = (
+node-at-requires : tie.Need-node-at-requires
+node-at-requires c κs = (
   c .before .pre .0,
   omega (
     arith,
@@ -20,28 +19,31 @@ small-at-requires c κs = (
   ),
 )
 
+cast-root : tie.Need-cast-root
+cast-root c = omega arith
+
 returns : tie.Need-returns
 returns c =
-    let start = c .before .before .before in
-    lut-low (dueOf (start .args .terms)) (now (start .args .sheet)) (start .args .at) (c .before .small-at .ensures)
-    (start .args .least) (omega arith)
+    let start = c .before .before .before .before in
+    lut-low (dueOf (start .args .terms)) (now (start .args .sheet)) (start .args .at)
+    (c .before .before .node-at .ensures) (start .args .least) (omega arith)
 
 returns-2 : tie.Need-returns-2
 returns-2 c =
-    let after-small-at = c .before .before .before in
-    let start = after-small-at .before .before in
+    let after-node-at = c .before .before .before .before in
+    let start = after-node-at .before .before in
     lut-high (dueOf (start .args .terms)) (now (start .args .sheet)) (start .args .at)
-    (after-small-at .small-at .ensures) (start .args .least) (omega arith) (omega arith)
+    (after-node-at .node-at .ensures) (start .args .least) (omega arith) (omega arith)
 
 add-leaves-in-range : tie.Need-add-leaves-in-range
-add-leaves-in-range c = search needs
+add-leaves-in-range c = omega arith
 
 add-leaves-in-range-2 : tie.Need-add-leaves-in-range-2
-add-leaves-in-range-2 c = search needs
+add-leaves-in-range-2 c = omega arith
 
 leaves-in-range-requires : tie.Need-leaves-in-range-requires
 leaves-in-range-requires c κs =
-    let start = c .before .before .before .before .before in (
+    let start = c .before .before .before .before .before .before in (
       start .pre .0,
       omega (
         arith,
@@ -51,18 +53,18 @@ leaves-in-range-requires c κs =
 
 returns-3 : tie.Need-returns-3
 returns-3 c =
-    let after-small-at = c .before .before .before .before in
-    let start = after-small-at .before .before in
+    let after-node-at = c .before .before .before .before .before in
+    let start = after-node-at .before .before in
     lut-told (dueOf (start .args .terms)) (now (start .args .sheet)) (start .args .at)
-    (after-small-at .small-at .ensures) (start .args .least) (omega arith) (omega arith)
-    (c .leaves-in-range .ensures)
+    (after-node-at .node-at .ensures) (start .args .least) (omega arith) (omega arith) (c .leaves-in-range .ensures)
 
 pub lut-in-range-spec : {M : Type 1} → statement M
 lut-in-range-spec =
     tie.close
     (tie.spec
-    add-small-at
-    small-at-requires
+    add-node-at
+    node-at-requires
+    cast-root
     returns
     returns-2
     add-leaves-in-range

@@ -4,8 +4,10 @@ use mathlib.Core.Path.{_≡_, sym, _∙_}
 use mathlib.Core.List.{_∷_}
 use lib.ListN.{length}
 use denote.Ref.{now}
-use Rattle.sheet.specs.Shape.{idsAt, rising}
-use Rattle.shaping.proofs.Ids.{one-less, rise-first, rise-none, rise-stop, rise-next}
+use Rattle.drawing.specs.paper.Bytes.{idsAt}
+use Rattle.sheet.specs.paper.Shape.{rising}
+use Rattle.drawing.proofs.Ids.{one-less}
+use Rattle.shaping.proofs.Ids.{rise-first, rise-none, rise-stop, rise-next}
 use native.Mathlib.Omega.{arith}
 use Rattle.shaping.proofs.numbers.ids_rise.Statement.{statement}
 use Rattle.shaping.proofs.numbers.ids_rise.Tie as tie
@@ -13,13 +15,13 @@ use Rattle.shaping.proofs.numbers.ids_rise.Tie as tie
 abbrev Inv-loop : tie.InvT-loop
 Inv-loop sheet at width count before₀ next₀ left₀ before next left =
     (next + left * width ≤ length sheet)
-    × (rising (idsAt sheet at width count) ≡ rising (before ∷ idsAt sheet next width left))
+    × (rising (idsAt sheet at width count) ≡ rising (before .id ∷ idsAt sheet next width left))
 
 abbrev μ-loop : tie.MeasureT-loop
 μ-loop sheet at width count before₀ next₀ left₀ before next left = left
 
-small-at-requires : tie.Need-small-at-requires Inv-loop μ-loop
-small-at-requires c κs = (
+node-at-requires : tie.Need-node-at-requires Inv-loop μ-loop
+node-at-requires c κs = (
   c .before .pre .0,
   omega (arith, one-less (c .before .args .count) (c .before .args .width) (omega arith)),
 )
@@ -34,26 +36,27 @@ loop-holds : tie.Need-loop-holds Inv-loop μ-loop
 loop-holds c = (
   omega (arith, one-less (c .before .before .args .count) (c .before .before .args .width) (omega arith)),
   rise-first (now (c .before .before .args .sheet)) (c .before .before .args .at) (c .before .before .args .width)
-      (c .before .before .args .count) (omega arith) (c .small-at .ensures),
+      (c .before .before .args .count) (omega arith) (c .node-at .ensures),
 )
 
-small-at-requires-2 : tie.Need-small-at-requires-2 Inv-loop μ-loop
-small-at-requires-2 c κs =
+node-at-requires-2 : tie.Need-node-at-requires-2 Inv-loop μ-loop
+node-at-requires-2 c κs =
     let start = c .before .before .before .before in
     (start .pre .0, omega (arith, one-less (c .before .loop .left) (start .args .width) (omega arith)))
 
 returns : tie.Need-returns Inv-loop μ-loop
 returns c =
-    let at-loop = c .before .before .before in
+    let after-node-at2 = c .before .before .before in
+    let at-loop = after-node-at2 .before .before in
     let start = at-loop .before .before .before in
     sym
     (at-loop .loop .inv .1
-    ∙ rise-stop (now (start .args .sheet)) (at-loop .loop .before) (at-loop .loop .next) (start .args .width)
-    (at-loop .loop .left) (omega arith) (c .before .small-at2 .ensures) (omega arith))
+    ∙ rise-stop (now (start .args .sheet)) (at-loop .loop .before .id) (at-loop .loop .next) (start .args .width)
+    (at-loop .loop .left) (omega arith) (after-node-at2 .node-at2 .ensures) (omega arith))
 
 add-next-2 : tie.Need-add-next-2 Inv-loop μ-loop
 add-next-2 c =
-    let at-loop = c .before .before .before in
+    let at-loop = c .before .before .before .before .before in
     let start = at-loop .before .before .before in
     omega (arith, one-less (at-loop .loop .left) (start .args .width) (omega arith))
 
@@ -65,12 +68,13 @@ loop-less c = omega arith
 
 loop-again : tie.Need-loop-again Inv-loop μ-loop
 loop-again c =
-    let at-loop = c .before .before .before in
+    let after-node-at2 = c .before .before .before in
+    let at-loop = after-node-at2 .before .before in
     let start = at-loop .before .before .before in (
       omega (arith, one-less (at-loop .loop .left) (start .args .width) (omega arith)),
       at-loop .loop .inv .1
-          ∙ rise-next (now (start .args .sheet)) (at-loop .loop .before) (at-loop .loop .next) (start .args .width)
-          (at-loop .loop .left) (omega arith) (c .before .small-at2 .ensures) (omega arith),
+          ∙ rise-next (now (start .args .sheet)) (at-loop .loop .before .id) (at-loop .loop .next) (start .args .width)
+          (at-loop .loop .left) (omega arith) (after-node-at2 .node-at2 .ensures) (omega arith),
     )
 
 returns-2 : tie.Need-returns-2 Inv-loop μ-loop
@@ -78,8 +82,8 @@ returns-2 c =
     let start = c .before .before .before .before in
     sym
     (c .before .loop .inv .1
-    ∙ rise-none (now (start .args .sheet)) (c .before .loop .before) (c .before .loop .next) (start .args .width)
-    (c .before .loop .left) (omega arith))
+    ∙ rise-none (now (start .args .sheet)) (c .before .loop .before .id) (c .before .loop .next)
+    (start .args .width) (c .before .loop .left) (omega arith))
 
 pub ids-rise-spec : {M : Type 1} → statement M
 ids-rise-spec =
@@ -87,11 +91,11 @@ ids-rise-spec =
     (tie.spec
     Inv-loop
     μ-loop
-    small-at-requires
+    node-at-requires
     add-next
     sub-left
     loop-holds
-    small-at-requires-2
+    node-at-requires-2
     returns
     add-next-2
     sub-left-2

@@ -6,7 +6,7 @@ use lib.ListN.{length}
 use denote.Ref.{now}
 use borrow.Author.Tests.{not-true, not-false}
 use Rattle.shaping.specs.Numbers.{pathsEnd}
-use Rattle.shaping.proofs.Ids.{twice}
+use Rattle.drawing.proofs.Ids.{twice}
 use Rattle.shaping.proofs.PathLists.{outOfRange, ends-after, ends-next, ends-inside, range-none, range-empty}
 use Rattle.shaping.proofs.PathLists.{range-far, range-next}
 use native.Mathlib.Omega.{arith}

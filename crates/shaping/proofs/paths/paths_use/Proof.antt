@@ -2,8 +2,8 @@
 use Prim.Native.Nat.{_≤_}
 use mathlib.Core.Path.{_≡_, refl, sym, _∙_}
 use denote.Ref.{now}
-use Rattle.sheet.specs.Shape.{pathsUse}
-use Rattle.shaping.proofs.Ids.{twice}
+use Rattle.sheet.specs.paper.Shape.{pathsUse}
+use Rattle.drawing.proofs.Ids.{twice}
 use Rattle.shaping.proofs.PathLists.{use-none, use-torn, use-past, use-next}
 use native.Mathlib.Omega.{arith}
 use Rattle.shaping.proofs.paths.paths_use.Statement.{statement}

@@ -3,9 +3,10 @@ use mathlib.Core.Path.{_≡_, ap, sym, _∙_}
 use Prim.Native.Nat.{ℕ, suc, _-_}
 use lib.ListN.{getD}
 use denote.Ref.{now}
-use Rattle.sheet.specs.Shape.{idsAt}
+use Rattle.drawing.specs.paper.Bytes.{idsAt}
 use Rattle.shaping.specs.Loading.{counted}
-use Rattle.shaping.proofs.Ids.{id-at, id-past, id-inside, length-ids-at}
+use Rattle.drawing.proofs.Ids.{length-ids}
+use Rattle.shaping.proofs.Ids.{id-at, id-past, id-inside}
 use native.Mathlib.Omega.{arith}
 use borrow.Author.Needs.{needs}
 use Rattle.shaping.proofs.storing.list_place.Statement.{statement}
@@ -16,52 +17,53 @@ cast-result c = search needs
 
 returns : tie.Need-returns
 returns c =
-    let a = c .before .before .args in
-    let ids = idsAt (now (a .sheet)) (a .at) (a .width) (a .count) in
-    sym (length-ids-at (now (a .sheet)) (a .at) (a .width) (a .count))
-    ∙ ap (λ (n : ℕ). getD (counted ids) n 0) (sym (c .if1 .taken))
+    let start = c .before .before .before in
+    let a = start .args in
+    let ids = idsAt (now (a .sheet)) (a .at) (a .width) (a .size .leaves) in
+    sym (length-ids (now (a .sheet)) (a .at) (a .width) (a .size .leaves))
+    ∙ ap (λ (n : ℕ). getD (counted ids) n 0) (sym (c .before .if1 .taken))
 
 sub-before : tie.Need-sub-before
 sub-before c = search needs
 
+cast-if2 : tie.Need-cast-if2
+cast-if2 c = search needs
+
 returns-2 : tie.Need-returns-2
 returns-2 c =
-    let start = c .before .before .before in
+    let start = c .before .before .before .before in
     let a = start .args in
-    let ids = idsAt (now (a .sheet)) (a .at) (a .width) (a .count) in
+    let ids = idsAt (now (a .sheet)) (a .at) (a .width) (a .size .leaves) in
     let place : suc (a .i - 1) ≡ a .i = omega arith in
-    sym (id-past (now (a .sheet)) (a .at) (a .width) (a .count) (a .i - 1) (omega arith))
+    sym (id-past (now (a .sheet)) (a .at) (a .width) (a .size .leaves) (a .i - 1) (omega arith))
     ∙ ap (λ (n : ℕ). getD (counted ids) n 0) place
 
-mul-small-at : tie.Need-mul-small-at
-mul-small-at c =
-    let start = c .before .before .before in
+mul-node-at : tie.Need-mul-node-at
+mul-node-at c =
+    let start = c .before .before .before .before in
     let a = start .args in
-    omega (arith, id-inside (a .width) (a .count) (a .i - 1) (omega arith))
+    omega (arith, id-inside (a .width) (a .size .leaves) (a .i - 1) (omega arith))
 
-add-small-at : tie.Need-add-small-at
-add-small-at c =
-    let start = c .before .before .before in
+add-node-at : tie.Need-add-node-at
+add-node-at c =
+    let start = c .before .before .before .before in
     let a = start .args in
-    omega (arith, id-inside (a .width) (a .count) (a .i - 1) (omega arith))
+    omega (arith, id-inside (a .width) (a .size .leaves) (a .i - 1) (omega arith))
 
-small-at-requires : tie.Need-small-at-requires
-small-at-requires c κs =
-    let start = c .before .before .before in
+node-at-requires : tie.Need-node-at-requires
+node-at-requires c κs =
+    let start = c .before .before .before .before in
     let a = start .args in
-    (start .pre .0, omega (arith, id-inside (a .width) (a .count) (a .i - 1) (omega arith)))
-
-cast-result-2 : tie.Need-cast-result-2
-cast-result-2 c = search needs
+    (start .pre .0, omega (arith, id-inside (a .width) (a .size .leaves) (a .i - 1) (omega arith)))
 
 returns-3 : tie.Need-returns-3
 returns-3 c =
-    let start = c .before .before .before .before in
+    let start = c .before .before .before .before .before in
     let a = start .args in
-    let ids = idsAt (now (a .sheet)) (a .at) (a .width) (a .count) in
+    let ids = idsAt (now (a .sheet)) (a .at) (a .width) (a .size .leaves) in
     let place : suc (a .i - 1) ≡ a .i = omega arith in
-    c .small-at .ensures .number
-    ∙ sym (id-at (now (a .sheet)) (a .at) (a .width) (a .count) (a .i - 1) (omega arith))
+    c .node-at .ensures .number
+    ∙ sym (id-at (now (a .sheet)) (a .at) (a .width) (a .size .leaves) (a .i - 1) (omega arith))
     ∙ ap (λ (n : ℕ). getD (counted ids) n 0) place
 
 pub list-place-spec : {M : Type 1} → statement M
@@ -71,9 +73,9 @@ list-place-spec =
     cast-result
     returns
     sub-before
+    cast-if2
     returns-2
-    mul-small-at
-    add-small-at
-    small-at-requires
-    cast-result-2
+    mul-node-at
+    add-node-at
+    node-at-requires
     returns-3)

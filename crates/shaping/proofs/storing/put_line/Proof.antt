@@ -10,55 +10,49 @@ use Rattle.shaping.proofs.storing.put_line.Statement.{statement}
 use Rattle.shaping.proofs.storing.put_line.Tie as tie
 
 cast-v : tie.Need-cast-v
-cast-v c = search needs
+cast-v c = omega arith
 
 add-cut : tie.Need-add-cut
-add-cut c = search needs
+add-cut c = omega arith
 
 add-cut-2 : tie.Need-add-cut-2
-add-cut-2 c = search needs
+add-cut-2 c = omega arith
 
-small-at-requires : tie.Need-small-at-requires
-small-at-requires c κs = search needs
+size-at-requires : tie.Need-size-at-requires
+size-at-requires c κs = search needs
 
-add-small-at : tie.Need-add-small-at
-add-small-at c = search needs
+add-label-at : tie.Need-add-label-at
+add-label-at c = omega arith
 
-small-at-requires-2 : tie.Need-small-at-requires-2
-small-at-requires-2 c κs = search needs
-
-cast-labels : tie.Need-cast-labels
-cast-labels c = search needs
+label-at-requires : tie.Need-label-at-requires
+label-at-requires c κs = search needs
 
 mul-labels : tie.Need-mul-labels
-mul-labels c = search needs
+mul-labels c = omega arith
 
 slice-write-labels : tie.Need-slice-write-labels
-slice-write-labels c = search needs
+slice-write-labels c = omega arith
 
 cast-places : tie.Need-cast-places
-cast-places c = search needs
+cast-places c = omega arith
 
 mul-places : tie.Need-mul-places
-mul-places c = search needs
+mul-places c = omega arith
 
 slice-write-places : tie.Need-slice-write-places
-slice-write-places c = search needs
+slice-write-places c = omega arith
 
 add-put-list : tie.Need-add-put-list
-add-put-list c = search needs
+add-put-list c = omega arith
 
 put-list-requires : tie.Need-put-list-requires
 put-list-requires c κs =
     let start = c .before .before .before .before .before .before .before .before in
-    let read = c .before .before .small-at .ensures in (
+    let read = c .before .before .size-at .ensures in (
       start .pre .0 .narrow,
       (
-        read .fits,
-        (
-          omega (arith, start .pre .0 .whole, ap (λ (n : ℕ). n * start .args .terms .form .width) (read .number)),
-          omega (arith, start .pre .1 .cuts),
-        ),
+        omega (arith, start .pre .0 .whole, ap (λ (n : ℕ). n * start .args .terms .form .width) (read .number)),
+        omega (arith, start .pre .1 .cuts),
       ),
     )
 
@@ -73,11 +67,11 @@ same-length-3 c = search needs
 
 returns : tie.Need-returns
 returns c =
-    let after-small-at2 = c .before .before .before .before in
-    let after-small-at = after-small-at2 .before in
-    let start = after-small-at .before .before .before .before .before .before in
+    let after-label-at = c .before .before .before .before in
+    let after-size-at = after-label-at .before in
+    let start = after-size-at .before .before .before .before .before .before in
     line-put (dueOf (start .args .terms)) (now (start .args .sheet)) (start .args .at) (start .args .node .id)
-    (after-small-at .small-at .ensures) (c .before .before .put-list .ensures) (after-small-at2 .small-at2 .ensures)
+    (after-size-at .size-at .ensures) (c .before .before .put-list .ensures) (after-label-at .label-at .ensures)
 
 pub put-line-spec : {M : Type 1} → statement M
 put-line-spec =
@@ -86,10 +80,9 @@ put-line-spec =
     cast-v
     add-cut
     add-cut-2
-    small-at-requires
-    add-small-at
-    small-at-requires-2
-    cast-labels
+    size-at-requires
+    add-label-at
+    label-at-requires
     mul-labels
     slice-write-labels
     cast-places

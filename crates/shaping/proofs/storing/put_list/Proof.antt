@@ -3,7 +3,7 @@ use Prim.Native.Nat.{ℕ, _+_, _*_, _-_, _≤_}
 use mathlib.Core.Path.{_≡_, ap, _∙_}
 use lib.ListN.{getD}
 use denote.Ref.{now}
-use Rattle.sheet.specs.Shape.{idsAt}
+use Rattle.drawing.specs.paper.Bytes.{idsAt}
 use Rattle.shaping.specs.Loading.{Filled, counted}
 use Rattle.shaping.proofs.Filling.{filled-none, filled-to, filled-set}
 use native.Mathlib.Omega.{arith}
@@ -11,11 +11,11 @@ use Rattle.shaping.proofs.storing.put_list.Statement.{statement}
 use Rattle.shaping.proofs.storing.put_list.Tie as tie
 
 abbrev Inv-loop : tie.InvT-loop
-Inv-loop sheet at width count cuts₀ base i₀ cuts i =
-    (i ≤ 7) × Filled cuts₀ base (base + i) (λ j. getD (counted (idsAt sheet at width count)) (j - base) 0) cuts
+Inv-loop sheet at width size cuts₀ base i₀ cuts i =
+    (i ≤ 7) × Filled cuts₀ base (base + i) (λ j. getD (counted (idsAt sheet at width (size .leaves))) (j - base) 0) cuts
 
 abbrev μ-loop : tie.MeasureT-loop
-μ-loop sheet at width count cuts₀ base i₀ cuts i = 7 - i
+μ-loop sheet at width size cuts₀ base i₀ cuts i = 7 - i
 
 cast-base : tie.Need-cast-base Inv-loop μ-loop
 cast-base c = omega arith
@@ -27,7 +27,7 @@ loop-holds : tie.Need-loop-holds Inv-loop μ-loop
 loop-holds c =
     let start = c .before .before .before in
     let ids =
-    counted (idsAt (now (start .args .sheet)) (start .args .at) (start .args .width) (start .args .count)) in (
+    counted (idsAt (now (start .args .sheet)) (start .args .at) (start .args .width) (start .args .size .leaves)) in (
       omega arith,
       filled-to (omega arith)
           (filled-none (now (start .args .cuts)) (7 * start .args .node .id)
@@ -37,7 +37,7 @@ loop-holds c =
 list-place-requires : tie.Need-list-place-requires Inv-loop μ-loop
 list-place-requires c κs =
     let start = c .before .before .before .before .before in
-    (start .pre .0, (start .pre .1 .0, start .pre .1 .1 .0))
+    (start .pre .0, start .pre .1 .0)
 
 add-cuts : tie.Need-add-cuts Inv-loop μ-loop
 add-cuts c = omega arith
@@ -57,7 +57,8 @@ loop-less c = omega arith
 loop-again : tie.Need-loop-again Inv-loop μ-loop
 loop-again c =
     let start = c .before .before .before .before .before .before in
-    let ids = counted (idsAt (now (start .args .sheet)) (start .args .at) (start .args .width) (start .args .count)) in
+    let ids =
+    counted (idsAt (now (start .args .sheet)) (start .args .at) (start .args .width) (start .args .size .leaves)) in
     let base = 7 * start .args .node .id in
     let i = c .before .before .loop .i in
     let place : i ≡ base + i - base = omega arith in (

@@ -1,24 +1,25 @@
 -- `put_no_line` meets its contract.
 use denote.Ref.{now}
 use Rattle.shaping.proofs.Filling.{no-line-put}
+use native.Mathlib.Omega.{arith}
 use borrow.Author.Needs.{needs}
 use Rattle.shaping.proofs.storing.put_no_line.Statement.{statement}
 use Rattle.shaping.proofs.storing.put_no_line.Tie as tie
 
 cast-v : tie.Need-cast-v
-cast-v c = search needs
+cast-v c = omega arith
 
 mul-labels : tie.Need-mul-labels
-mul-labels c = search needs
+mul-labels c = omega arith
 
 slice-write-labels : tie.Need-slice-write-labels
-slice-write-labels c = search needs
+slice-write-labels c = omega arith
 
 mul-places : tie.Need-mul-places
-mul-places c = search needs
+mul-places c = omega arith
 
 slice-write-places : tie.Need-slice-write-places
-slice-write-places c = search needs
+slice-write-places c = omega arith
 
 put-list-requires : tie.Need-put-list-requires
 put-list-requires c κs = search needs

@@ -1,21 +1,22 @@
 -- `put_no_lut` meets its contract.
 use denote.Ref.{now}
 use Rattle.shaping.proofs.Filling.{no-lut-put}
+use native.Mathlib.Omega.{arith}
 use borrow.Author.Needs.{needs}
 use Rattle.shaping.proofs.storing.put_no_lut.Statement.{statement}
 use Rattle.shaping.proofs.storing.put_no_lut.Tie as tie
 
 cast-v : tie.Need-cast-v
-cast-v c = search needs
+cast-v c = omega arith
 
 slice-write-luts : tie.Need-slice-write-luts
-slice-write-luts c = search needs
+slice-write-luts c = omega arith
 
 mul-tables : tie.Need-mul-tables
-mul-tables c = search needs
+mul-tables c = omega arith
 
 slice-write-tables : tie.Need-slice-write-tables
-slice-write-tables c = search needs
+slice-write-tables c = omega arith
 
 put-list-requires : tie.Need-put-list-requires
 put-list-requires c κs = search needs

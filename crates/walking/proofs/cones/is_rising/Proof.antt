@@ -5,8 +5,7 @@ use mathlib.Core.Path.{_≡_, ap}
 use lib.ListN.{getD}
 use denote.Ref.{now}
 use Rattle.storage.proofs.InMarks.{tells-yes, tells-no}
-use Rattle.walking.proofs.Tests.{part-rises, part-falls}
-use Rattle.walking.proofs.Tests.{rising-more}
+use Rattle.walking.proofs.Rises.{rising-more, part-rises, part-falls}
 use Rattle.walking.proofs.cones.is_rising.Statement.{statement}
 use Rattle.walking.proofs.cones.is_rising.Tie as tie
 

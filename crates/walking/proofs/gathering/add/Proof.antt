@@ -16,22 +16,17 @@ same-length c = search needs
 returns : tie.Need-returns
 returns c = Added.marked (c .before .is-marked .ensures .yes (c .if1 .taken)) refl refl refl
 
-mul-list : tie.Need-mul-list
-mul-list c =
-    let start = c .before .before .before .before .before in
-    omega (arith, start .pre .list-room (c .before .is-marked .ensures .no (c .if1 .left)))
-
-slice-write-list : tie.Need-slice-write-list
-slice-write-list c =
-    let start = c .before .before .before .before .before in
-    omega (arith, start .pre .list-room (c .before .is-marked .ensures .no (c .if1 .left)))
+put-node-requires : tie.Need-put-node-requires
+put-node-requires c κs =
+    let start = c .before .before .before .before .before .before in
+    start .pre .list-room (c .before .before .is-marked .ensures .no (c .before .if1 .left))
 
 mark-requires : tie.Need-mark-requires
 mark-requires c κs = search needs
 
 add-result : tie.Need-add-result
 add-result c =
-    let else1 = c .before .before .before .before in
+    let else1 = c .before .before .before .before .before .before .before .before in
     let after-is-marked = else1 .before in
     let start = after-is-marked .before .before .before .before in
     omega (arith, start .pre .list-room (after-is-marked .is-marked .ensures .no (else1 .if1 .left)))
@@ -44,11 +39,11 @@ same-length-3 c = search needs
 
 returns-2 : tie.Need-returns-2
 returns-2 c =
-    let else1 = c .before .before .before .before in
+    let after-put-node = c .before .before .before .before .before .before in
+    let else1 = after-put-node .before .before in
     let after-is-marked = else1 .before in
-    let at-mark = c .before .before in
     Added.added (after-is-marked .is-marked .ensures .no (else1 .if1 .left)) (λ u m. absurd (List·Memᴰ·not-nil m))
-    refl (at-mark .mark .ensures) refl
+    (after-put-node .put-node .ensures) (c .before .before .mark .ensures) refl
 
 pub add-spec : {M : Type 1} → statement M
 add-spec =
@@ -57,8 +52,7 @@ add-spec =
     is-marked-requires
     same-length
     returns
-    mul-list
-    slice-write-list
+    put-node-requires
     mark-requires
     add-result
     same-length-2

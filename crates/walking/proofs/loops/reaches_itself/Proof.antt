@@ -1,7 +1,6 @@
 -- `reaches_itself` meets its contract: what is listed lies behind the gate, and what was passed has its fanins listed.
 use native.Mathlib.Omega.{arith}
 use Prim.Native.Nat.{_-_}
-use mathlib.Core.Path.{refl}
 use Rattle.storage.proofs.Drawings.{drawn-span}
 use Rattle.walking.specs.Gathering.{Kept}
 use Rattle.walking.proofs.Fills.{start-listing, kept-started}
@@ -35,45 +34,46 @@ loop-holds c =
     let start = after-note-fanins .before .before .before .before .before .before .before .before .before .before in
     (search-start (start .args .gate .id) (start .pre .1 .1) (after-note-fanins .note-fanins .ensures), kept-same)
 
-mul-t17 : tie.Need-mul-t17 Inv-loop μ-loop
-mul-t17 c = omega (arith, c .before .loop .inv .0 .listing .few, c .before .loop .inv .0 .listing .small)
-
-slice-read-t19 : tie.Need-slice-read-t19 Inv-loop μ-loop
-slice-read-t19 c =
-    let at-loop = c .before .before in
-    omega (arith, at-loop .loop .inv .0 .listing .few, at-loop .loop .inv .0 .listing .list-long)
+node-at-requires : tie.Need-node-at-requires Inv-loop μ-loop
+node-at-requires c κs =
+    omega (arith, c .before .before .loop .inv .0 .listing .few, c .before .before .loop .inv .0 .listing .list-long)
 
 note-fanins-requires-2 : tie.Need-note-fanins-requires-2 Inv-loop μ-loop
 note-fanins-requires-2 c κs =
-    let in-loop = c .before .before .before in
+    let in-loop = c .before .before .before .before in
     let at-loop = in-loop .before in
     let start = at-loop .before .before .before .before .before .before .before .before .before .before .before .before
     .before .before .before in
-    let left = at-loop .loop .inv .0 in
-    (left .listing, next-gate (start .args .gate .id) (start .pre .1 .1) left (in-loop .loop-test .taken) .1)
+    let left = at-loop .loop .inv .0 in (
+      left .listing,
+      rw (c .before .before .node-at .ensures)
+          (next-gate (start .args .gate .id) (start .pre .1 .1) left (in-loop .loop-test .taken) .1),
+    )
 
 add-done : tie.Need-add-done Inv-loop μ-loop
 add-done c =
-    let in-loop = c .before .before .before .before .before .before .before .before in
+    let in-loop = c .before .before .before .before .before .before .before .before .before in
     let at-loop = in-loop .before in
     omega (arith, at-loop .loop .inv .0 .listing .few, at-loop .loop .inv .0 .listing .small, in-loop .loop-test .taken)
 
 loop-less : tie.Need-loop-less Inv-loop μ-loop
 loop-less c =
-    let in-loop = c .before .before .before .before .before .before .before .before in
+    let in-loop = c .before .before .before .before .before .before .before .before .before in
     let at-loop = in-loop .before in
     omega (arith, at-loop .loop .inv .0 .listing .few, in-loop .loop-test .taken)
 
 loop-again : tie.Need-loop-again Inv-loop μ-loop
 loop-again c =
     let after-note-fanins2 = c .before .before .before .before in
-    let in-loop = after-note-fanins2 .before .before .before .before in
+    let after-node-at = after-note-fanins2 .before .before .before in
+    let in-loop = after-node-at .before .before in
     let at-loop = in-loop .before in
     let start = at-loop .before .before .before .before .before .before .before .before .before .before .before .before
     .before .before .before in
     let left = at-loop .loop .inv in
     let noted = after-note-fanins2 .note-fanins2 .ensures in (
-      search-turn (start .args .gate .id) (start .pre .1 .1) (left .0) (in-loop .loop-test .taken) refl noted,
+      search-turn (start .args .gate .id) (start .pre .1 .1) (left .0) (in-loop .loop-test .taken)
+          (after-node-at .node-at .ensures) noted,
       kept-on (left .1) (noted .kept),
     )
 
@@ -81,8 +81,7 @@ is-marked-requires : tie.Need-is-marked-requires Inv-loop μ-loop
 is-marked-requires c κs =
     let start = c .before .before .before .before .before .before .before .before .before .before .before .before
     .before .before .before .before .before in
-    let at-loop = c .before .before in
-    omega (arith, start .pre .1 .1, at-loop .loop .inv .0 .listing .marks-long)
+    omega (arith, start .pre .1 .1, c .before .before .loop .inv .0 .listing .marks-long)
 
 same-length : tie.Need-same-length Inv-loop μ-loop
 same-length c =
@@ -108,13 +107,12 @@ returns c =
     let after-note-fanins = at-loop .before .before .before .before .before in
     let after-start = after-note-fanins .before .before .before .before .before in
     let start = after-start .before .before .before .before .before in
-    let at-loop-test = c .before .before in
     let started = kept-started (start .pre .0) (after-start .start .ensures) in
     let gate = start .pre .1 in
     record {
       reply =
           search-tells (start .args .gate .id) (gate .1) (at-loop .loop .inv .0) (gate .0)
-          (at-loop-test .loop-test .left) (c .is-marked .ensures);
+          (c .before .before .loop-test .left) (c .is-marked .ensures);
       kept = kept-on started (kept-on (after-note-fanins .note-fanins .ensures .kept) (at-loop .loop .inv .1));
     }
 
@@ -127,8 +125,7 @@ reaches-itself-spec =
     start-requires
     note-fanins-requires
     loop-holds
-    mul-t17
-    slice-read-t19
+    node-at-requires
     note-fanins-requires-2
     add-done
     loop-less

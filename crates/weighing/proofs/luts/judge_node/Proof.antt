@@ -21,8 +21,7 @@ returns c =
 leaves-cut-requires : tie.Need-leaves-cut-requires
 leaves-cut-requires c κs =
     let start = c .before .before .before .before .before .before .before .before .before .before .before .before in
-    let pre = start .pre in
-    cut-asked pre
+    cut-asked (start .pre)
 
 same-length : tie.Need-same-length
 same-length c = search needs
@@ -32,19 +31,14 @@ returns-2 c =
     let after-leaves-cut = c .before .before .before in
     let else1 = after-leaves-cut .before .before in
     let start = else1 .before .before .before .before .before .before .before .before .before .before .before in
-    let leaves-cut = after-leaves-cut .leaves-cut in
-    let if1 = else1 .if1 in
-    let pre = start .pre in
-    judged-cut pre (if1 .left) (leaves-cut .ensures) (not-true _ (c .if2 .taken))
+    judged-cut (start .pre) (else1 .if1 .left) (after-leaves-cut .leaves-cut .ensures) (not-true _ (c .if2 .taken))
 
 table-right-requires : tie.Need-table-right-requires
 table-right-requires c κs =
     let after-leaves-cut = c .before .before .before .before in
     let start = after-leaves-cut .before .before .before .before .before .before .before .before .before .before .before
     .before .before in
-    let leaves-cut = after-leaves-cut .leaves-cut in
-    let pre = start .pre in
-    function-asked pre (leaves-cut .ensures .reply .yes (not-false _ (c .before .if2 .left)))
+    function-asked (start .pre) (after-leaves-cut .leaves-cut .ensures .reply .yes (not-false _ (c .before .if2 .left)))
 
 same-length-2 : tie.Need-same-length-2
 same-length-2 c = search needs
@@ -59,13 +53,8 @@ returns-3 c =
     let after-leaves-cut = else2 .before .before .before in
     let else1 = after-leaves-cut .before .before in
     let start = else1 .before .before .before .before .before .before .before .before .before .before .before in
-    let table-right = after-table-right .table-right in
-    let if2 = else2 .if2 in
-    let leaves-cut = after-leaves-cut .leaves-cut in
-    let if1 = else1 .if1 in
-    let pre = start .pre in
-    judged-function pre (if1 .left) (leaves-cut .ensures) (not-false _ (if2 .left)) (table-right .ensures)
-    (not-true _ (c .if3 .taken))
+    judged-function (start .pre) (else1 .if1 .left) (after-leaves-cut .leaves-cut .ensures)
+    (not-false _ (else2 .if2 .left)) (after-table-right .table-right .ensures) (not-true _ (c .if3 .taken))
 
 same-length-4 : tie.Need-same-length-4
 same-length-4 c = search needs
@@ -80,13 +69,8 @@ returns-4 c =
     let after-leaves-cut = else2 .before .before .before in
     let else1 = after-leaves-cut .before .before in
     let start = else1 .before .before .before .before .before .before .before .before .before .before .before in
-    let table-right = after-table-right .table-right in
-    let if2 = else2 .if2 in
-    let leaves-cut = after-leaves-cut .leaves-cut in
-    let if1 = else1 .if1 in
-    let pre = start .pre in
-    judged-kept pre (if1 .left) (leaves-cut .ensures) (not-false _ (if2 .left)) (table-right .ensures)
-    (not-false _ (c .if3 .left))
+    judged-kept (start .pre) (else1 .if1 .left) (after-leaves-cut .leaves-cut .ensures)
+    (not-false _ (else2 .if2 .left)) (after-table-right .table-right .ensures) (not-false _ (c .if3 .left))
 
 pub judge-node-spec : {M : Type 1} → statement M
 judge-node-spec =

@@ -24,18 +24,11 @@ loop-holds c =
     let pre = start .pre in
     depths-begin pre
 
-mul-t12 : tie.Need-mul-t12 Inv-loop μ-loop
-mul-t12 c =
+node-at-requires : tie.Need-node-at-requires Inv-loop μ-loop
+node-at-requires c κs =
     let start = c .before .before .before .before .before .before in
-    let good = start .good in
     let pre = start .pre in
-    omega (arith, pre .chosen .order-long, good, c .loop-test .taken)
-
-shared-slice-read-t14 : tie.Need-shared-slice-read-t14 Inv-loop μ-loop
-shared-slice-read-t14 c =
-    let start = c .before .before .before .before .before .before .before in
-    let pre = start .pre in
-    omega (arith, pre .chosen .order-long, c .before .loop-test .taken)
+    omega (arith, pre .chosen .order-long, c .loop-test .taken)
 
 set-depth-requires : tie.Need-set-depth-requires Inv-loop μ-loop
 set-depth-requires c κs =
@@ -44,7 +37,7 @@ set-depth-requires c κs =
     let loop-test = c .before .before .loop-test in
     let loop = at-loop .loop in
     let pre = start .pre in
-    depth-fits pre (loop .i) (loop-test .taken) (loop .inv)
+    rw (c .before .node-at .ensures) (depth-fits pre (loop .i) (loop-test .taken) (loop .inv))
 
 add-i : tie.Need-add-i Inv-loop μ-loop
 add-i c =
@@ -62,14 +55,16 @@ loop-less c =
 
 loop-again : tie.Need-loop-again Inv-loop μ-loop
 loop-again c =
-    let in-loop = c .before .before .before .before .before in
+    let after-node-at = c .before .before .before .before in
+    let in-loop = after-node-at .before in
     let at-loop = in-loop .before in
     let start = at-loop .before .before .before .before .before in
     let set-depth = c .before .before .set-depth in
     let loop-test = in-loop .loop-test in
     let loop = at-loop .loop in
     let pre = start .pre in
-    depths-more pre (loop .i) (loop-test .taken) (loop .inv) (set-depth .ensures)
+    depths-more pre (loop .i) (loop-test .taken) (loop .inv)
+    (rw (after-node-at .node-at .ensures) at (set-depth .ensures))
 
 same-length : tie.Need-same-length Inv-loop μ-loop
 same-length c = c .before .loop .inv .rest .size
@@ -88,8 +83,7 @@ find-depths-spec =
     μ-loop
     sub-gates
     loop-holds
-    mul-t12
-    shared-slice-read-t14
+    node-at-requires
     set-depth-requires
     add-i
     loop-less

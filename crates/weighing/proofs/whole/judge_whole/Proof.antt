@@ -13,8 +13,7 @@ clear-requires c κs = search needs
 judge-wanted-requires : tie.Need-judge-wanted-requires
 judge-wanted-requires c κs =
     let start = c .before .before .before .before .before .before .before .before .before .before .before .before in
-    let pre = start .pre in
-    cover-asked pre
+    cover-asked (start .pre)
 
 is-kept-requires : tie.Need-is-kept-requires
 is-kept-requires c κs = search needs
@@ -30,23 +29,16 @@ returns c =
     let after-judge-wanted = c .before .before .before .before in
     let after-clear = after-judge-wanted .before .before .before .before in
     let start = after-clear .before .before .before .before .before .before .before .before .before in
-    let judge-wanted = after-judge-wanted .judge-wanted in
-    let clear = after-clear .clear in
-    let args = start .args in
-    let pre = start .pre in
-    whole-cover pre (clear .ensures) (judge-wanted .ensures) (args .head .depth)
-    (c .before .is-kept .ensures .no (not-true _ (c .if1 .taken)))
+    whole-cover (start .pre) (after-clear .clear .ensures) (after-judge-wanted .judge-wanted .ensures)
+    (start .args .head .depth) (c .before .is-kept .ensures .no (not-true _ (c .if1 .taken)))
 
 cover-depth-requires : tie.Need-cover-depth-requires
 cover-depth-requires c κs =
     let after-judge-wanted = c .before .before .before .before .before in
     let after-clear = after-judge-wanted .before .before .before .before in
     let start = after-clear .before .before .before .before .before .before .before .before .before in
-    let is-kept = c .before .before .is-kept in
-    let judge-wanted = after-judge-wanted .judge-wanted in
-    let clear = after-clear .clear in
-    let pre = start .pre in
-    deep-asked pre (clear .ensures) (judge-wanted .ensures) (is-kept .ensures .yes (not-false _ (c .before .if1 .left)))
+    deep-asked (start .pre) (after-clear .clear .ensures) (after-judge-wanted .judge-wanted .ensures)
+    (c .before .before .is-kept .ensures .yes (not-false _ (c .before .if1 .left)))
 
 same-length-3 : tie.Need-same-length-3
 same-length-3 c = search needs
@@ -62,23 +54,15 @@ returns-2 c =
     let after-judge-wanted = after-is-kept .before .before .before in
     let after-clear = after-judge-wanted .before .before .before .before in
     let start = after-clear .before .before .before .before .before .before .before .before .before in
-    let cover-depth = after-cover-depth .cover-depth in
-    let if1 = else1 .if1 in
-    let is-kept = after-is-kept .is-kept in
-    let judge-wanted = after-judge-wanted .judge-wanted in
-    let clear = after-clear .clear in
-    let args = start .args in
-    let pre = start .pre in
-    let kept = is-kept .ensures .yes (not-false _ (if1 .left)) in
-    whole-not-reached pre (clear .ensures) (judge-wanted .ensures) kept (cover-depth .ensures) (args .head .depth)
-    (c .if2 .taken)
+    whole-not-reached (start .pre) (after-clear .clear .ensures) (after-judge-wanted .judge-wanted .ensures)
+    (after-is-kept .is-kept .ensures .yes (not-false _ (else1 .if1 .left)))
+    (after-cover-depth .cover-depth .ensures) (start .args .head .depth) (c .if2 .taken)
 
 depth-requires : tie.Need-depth-requires
 depth-requires c κs =
     let start = c .before .before .before .before .before .before .before .before .before .before .before .before
     .before .before .before .before .before .before .before .before .before .before .before .before in
-    let pre = start .pre in
-    labels-asked pre
+    labels-asked (start .pre)
 
 same-length-5 : tie.Need-same-length-5
 same-length-5 c = search needs
@@ -96,19 +80,10 @@ returns-3 c =
     let after-judge-wanted = after-is-kept .before .before .before in
     let after-clear = after-judge-wanted .before .before .before .before in
     let start = after-clear .before .before .before .before .before .before .before .before .before in
-    let depth = after-depth .depth in
-    let if2 = else2 .if2 in
-    let cover-depth = after-cover-depth .cover-depth in
-    let if1 = else1 .if1 in
-    let is-kept = after-is-kept .is-kept in
-    let judge-wanted = after-judge-wanted .judge-wanted in
-    let clear = after-clear .clear in
-    let args = start .args in
-    let pre = start .pre in
-    let kept = is-kept .ensures .yes (not-false _ (if1 .left)) in
-    let head = args .head .depth in
-    whole-not-labelled pre (clear .ensures) (judge-wanted .ensures) kept (cover-depth .ensures) head
-    (depth .ensures) (λ e. omega (arith, e, c .if3 .taken, if2 .left))
+    whole-not-labelled (start .pre) (after-clear .clear .ensures) (after-judge-wanted .judge-wanted .ensures)
+    (after-is-kept .is-kept .ensures .yes (not-false _ (else1 .if1 .left)))
+    (after-cover-depth .cover-depth .ensures) (start .args .head .depth) (after-depth .depth .ensures)
+    (λ e. omega (arith, e, c .if3 .taken, else2 .if2 .left))
 
 same-length-7 : tie.Need-same-length-7
 same-length-7 c = search needs
@@ -126,19 +101,10 @@ returns-4 c =
     let after-judge-wanted = after-is-kept .before .before .before in
     let after-clear = after-judge-wanted .before .before .before .before in
     let start = after-clear .before .before .before .before .before .before .before .before .before in
-    let depth = after-depth .depth in
-    let if2 = else2 .if2 in
-    let cover-depth = after-cover-depth .cover-depth in
-    let if1 = else1 .if1 in
-    let is-kept = after-is-kept .is-kept in
-    let judge-wanted = after-judge-wanted .judge-wanted in
-    let clear = after-clear .clear in
-    let args = start .args in
-    let pre = start .pre in
-    let kept = is-kept .ensures .yes (not-false _ (if1 .left)) in
-    let head = args .head .depth in
-    whole-kept pre (clear .ensures) (judge-wanted .ensures) kept (cover-depth .ensures) head (depth .ensures)
-    (if2 .left) (omega (arith, c .if3 .left))
+    whole-kept (start .pre) (after-clear .clear .ensures) (after-judge-wanted .judge-wanted .ensures)
+    (after-is-kept .is-kept .ensures .yes (not-false _ (else1 .if1 .left)))
+    (after-cover-depth .cover-depth .ensures) (start .args .head .depth) (after-depth .depth .ensures)
+    (else2 .if2 .left) (omega (arith, c .if3 .left))
 
 pub judge-whole-spec : {M : Type 1} → statement M
 judge-whole-spec =

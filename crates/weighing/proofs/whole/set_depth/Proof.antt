@@ -1,7 +1,8 @@
 -- `set_depth` meets its contract.
 use native.Mathlib.Omega.{arith}
-use Prim.Native.Nat.{ℕ, _+_}
-use mathlib.Core.Path.{refl, ap}
+use Prim.Native.Nat.{suc}
+use native.Mathlib.Numerals.{add-one}
+use mathlib.Core.Path.{refl, ap, sym, _∙_}
 use lib.ListN.{set}
 use denote.Ref.{now}
 use Rattle.weighing.proofs.Deep.{depth-asked, depth-at}
@@ -42,32 +43,35 @@ depth-requires c κs =
     let pre = start .pre in
     depth-asked pre (c .size-at .ensures)
 
-add-depths : tie.Need-add-depths
-add-depths c =
+above-requires : tie.Need-above-requires
+above-requires c κs =
     let start = c .before .before .before .before .before .before .before .before .before .before .before in
     let p = start .pre in
     omega (arith, depth-at p (c .before .before .size-at .ensures) (c .before .depth .ensures), p .small)
 
-mul-depths : tie.Need-mul-depths
-mul-depths c = search needs
-
-slice-write-depths : tie.Need-slice-write-depths
-slice-write-depths c = search needs
+put-label-requires : tie.Need-put-label-requires
+put-label-requires c κs = search needs
 
 same-length : tie.Need-same-length
 same-length c = search needs
 
 returns : tie.Need-returns
 returns c =
-    let then1 = c .before .before .before .before .before in
+    let after-above = c .before .before .before in
+    let after-depth = after-above .before .before in
+    let after-size-at = after-depth .before in
+    let then1 = after-size-at .before .before .before in
     let start = then1 .before .before .before .before .before .before in
-    let size-at = c .before .before .size-at in
+    let size-at = after-size-at .size-at in
     let if1 = then1 .if1 in
     let a = start .args in
     let pre = start .pre in
-    let found = depth-at pre (size-at .ensures) (c .before .depth .ensures) in
+    let found = depth-at pre (size-at .ensures) (after-depth .depth .ensures) in
     record {
-      root = λ _. ap (λ (d : ℕ). set (now (a .depths)) (a .node .id) (d + 1)) found;
+      root =
+          λ _.
+          c .before .before .put-label .ensures
+          ∙ ap (set (now (a .depths)) (a .node .id)) (after-above .above .ensures ∙ ap suc found ∙ sym (add-one _));
       other = λ out. absurd (out (if1 .taken));
     }
 
@@ -88,9 +92,8 @@ set-depth-spec =
     part-depth-end
     size-at-requires
     depth-requires
-    add-depths
-    mul-depths
-    slice-write-depths
+    above-requires
+    put-label-requires
     same-length
     returns
     returns-2)

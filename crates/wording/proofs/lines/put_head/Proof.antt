@@ -1,7 +1,7 @@
 -- `put_head` meets its contract.
 use native.Mathlib.Omega.{arith}
 use lib.ListN.{length-append}
-use Rattle.wording.specs.Text.{headLine}
+use Rattle.wording.specs.paper.Text.{headLine}
 use Rattle.wording.proofs.Puts.{put-then}
 use borrow.Author.Needs.{needs}
 use Rattle.wording.proofs.lines.put_head.Statement.{statement}

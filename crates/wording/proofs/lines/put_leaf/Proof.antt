@@ -1,5 +1,5 @@
 -- `put_leaf` meets its contract.
-use Rattle.wording.specs.Text.{leafText}
+use Rattle.wording.specs.paper.Text.{leafText}
 use borrow.Author.Needs.{needs}
 use Rattle.wording.proofs.lines.put_leaf.Statement.{statement}
 use Rattle.wording.proofs.lines.put_leaf.Tie as tie

@@ -4,7 +4,7 @@ use native.Mathlib.Omega.{arith}
 use Prim.Native.Nat.{_≤_, _-_}
 use denote.Ref.{now}
 use lib.ListN.{length, drop}
-use Rattle.wording.specs.Text.{each, leafText}
+use Rattle.wording.specs.paper.Text.{each, leafText}
 use Rattle.wording.proofs.Puts.{Left, left-start}
 use Rattle.wording.proofs.Listed.{each-room, each-turn, each-end}
 use Rattle.wording.proofs.lines.put_leaves.Statement.{statement}

@@ -1,7 +1,7 @@
 -- `put_lut_line` meets its contract.
 use native.Mathlib.Omega.{arith}
 use lib.ListN.{length-append}
-use Rattle.wording.specs.Text.{lutLine}
+use Rattle.wording.specs.paper.Text.{lutLine}
 use Rattle.wording.proofs.Puts.{put-then}
 use borrow.Author.Needs.{needs}
 use Rattle.wording.proofs.lines.put_lut_line.Statement.{statement}

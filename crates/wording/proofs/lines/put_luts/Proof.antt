@@ -3,7 +3,7 @@ use native.Mathlib.Omega.{arith}
 use Prim.Native.Nat.{_≤_, _-_}
 use denote.Ref.{now}
 use lib.ListN.{take, drop}
-use Rattle.wording.specs.Text.{each}
+use Rattle.wording.specs.paper.Text.{each}
 use Rattle.wording.specs.Arrays.{lutText, markedFrom}
 use Rattle.wording.proofs.Puts.{Left, left-start}
 use Rattle.wording.proofs.Listed.{marks-room, marks-turn, marks-end}

@@ -1,6 +1,6 @@
 -- `digit_byte` meets its contract.
 use borrow.Author.Tests.{lt-ltb, le-ltb}
-use Rattle.wording.specs.Text.{digit}
+use Rattle.wording.specs.paper.Text.{digit}
 use borrow.Author.Needs.{needs}
 use Rattle.wording.proofs.words.digit_byte.Statement.{statement}
 use Rattle.wording.proofs.words.digit_byte.Tie as tie

@@ -2,7 +2,7 @@
 use native.Mathlib.Omega.{arith}
 use Prim.Native.Nat.{_+_}
 use mathlib.Core.Path.{_≡_}
-use Rattle.wording.specs.Text.{places}
+use Rattle.wording.specs.paper.Text.{places}
 use Rattle.wording.proofs.Numbers.{places-small, places-large, places-most}
 use Rattle.wording.proofs.words.places_of.Statement.{statement}
 use Rattle.wording.proofs.words.places_of.Tie as tie

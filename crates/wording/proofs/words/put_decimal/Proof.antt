@@ -1,6 +1,6 @@
 -- `put_decimal` meets its contract.
 use native.Mathlib.Omega.{arith}
-use Rattle.wording.specs.Text.{decimal}
+use Rattle.wording.specs.paper.Text.{decimal}
 use Rattle.wording.proofs.Numbers.{decimal-size}
 use borrow.Author.Needs.{needs}
 use Rattle.wording.proofs.words.put_decimal.Statement.{statement}

@@ -4,7 +4,7 @@ use Prim.Native.Nat.{ℕ, suc, _≤_, _+_, _-_}
 use mathlib.Core.Path.{_≡_, refl, ap, sym, _∙_}
 use lib.ListN.{length, length-set}
 use lib.Seq.{sets}
-use Rattle.wording.specs.Text.{digits}
+use Rattle.wording.specs.paper.Text.{digits}
 use Rattle.wording.proofs.Numbers.{digits-size, digits-turn, remainder-small}
 use Rattle.wording.proofs.words.put_digits.Statement.{statement}
 use Rattle.wording.proofs.words.put_digits.Tie as tie

@@ -1,6 +1,6 @@
 -- `put_hex16` meets its contract.
 use native.Mathlib.Omega.{arith}
-use Rattle.wording.specs.Text.{hex16}
+use Rattle.wording.specs.paper.Text.{hex16}
 use Rattle.wording.proofs.Numbers.{hex16-size}
 use borrow.Author.Needs.{needs}
 use Rattle.wording.proofs.words.put_hex16.Statement.{statement}

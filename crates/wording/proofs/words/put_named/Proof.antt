@@ -2,7 +2,7 @@
 use native.Mathlib.Omega.{arith}
 use denote.Ref.{now}
 use lib.ListN.{length-append}
-use Rattle.wording.specs.Text.{decimal, numbered}
+use Rattle.wording.specs.paper.Text.{decimal, numbered}
 use Rattle.wording.proofs.Puts.{put-then}
 use borrow.Author.Needs.{needs}
 use Rattle.wording.proofs.words.put_named.Statement.{statement}

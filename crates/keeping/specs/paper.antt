@@ -1,0 +1,4 @@
+pub mod Right
+pub mod Mappers
+pub mod Same
+pub mod Printed

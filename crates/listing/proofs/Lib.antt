@@ -1,0 +1,3 @@
+pub mod Listed
+pub mod Tables
+pub mod One

@@ -1,0 +1,3 @@
+pub mod SheetsMade
+pub mod Standing
+pub mod Tables

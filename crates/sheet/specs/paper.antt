@@ -1,0 +1,5 @@
+pub mod Limits
+pub mod Sheet
+pub mod Encoding
+pub mod Shape
+pub mod Rules

@@ -1,0 +1,4 @@
+pub mod Text
+pub mod Puts
+pub mod Rooms
+pub mod Filled
