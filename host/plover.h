@@ -1,5 +1,5 @@
-/* The mapper and the inspector of Ploverdrift. Link target/staticlib/libplover.a, which
- * `rt staticlib plover` makes for x86-64. What the functions promise is proved for all bytes
+/* The mapper and the inspector of Ploverdrift. Link libplover.a for x86-64: lib/libplover.a of a
+ * release, or target/staticlib/libplover.a, which `rt staticlib plover` makes. What the functions promise is proved for all bytes
  * (docs/PROMISES.md, plover); that this file declares them as they are is not.
  *
  * A pointer comes with the number of bytes that it points to. It is never null, even where that

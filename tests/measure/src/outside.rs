@@ -1,5 +1,22 @@
 //! Asks Yosys and ABC about the library's sheets: the depth, and whether the LUTs are the gates.
-//! docs/MEASURES.md says where they must agree, where they may differ, and why.
+//! They are given BLIF of the gates that an output needs, and of the sheet's LUTs.
+//!
+//! Yosys' `flowmap` must find our depth: gates become cells `$lut`, which it takes as they are, and
+//! it knows no rewriting. Three things would spoil it, and are kept out (blif.rs): it counts gates
+//! that no output needs; its reader drops a gate that only repeats its fanin, so such a gate is
+//! written as an AND of the fanin with itself; it takes a gate without rows for unknown, so a
+//! constant is written row by row. Its number of LUTs is noted and not demanded: nothing says that
+//! its cut is the one with the largest cone.
+//!
+//! ABC's `cec` must find the LUTs equal to the gates, on every drawing.
+//!
+//! ABC's `if` works on a graph of two-input ANDs that it makes first. On drawings of such ANDs with
+//! inverters at their pins, of which no two read the same pair, that graph has one node a gate.
+//! There its depth can't be less than ours, and with enough cuts must be equal; with the usual 8 it
+//! may miss the best cut and be greater. On other gates its depth is noted only. It may be less: a
+//! LUT may end inside a gate that was taken apart, and functions are simplified (AND(x,x) goes). It
+//! may be greater: 8 cuts are too few; or a node's complement stands at two outputs beside the node
+//! itself, and the second is made a buffer of the first and counted as a level.
 
 use crate::ands::{drawing, Form};
 use crate::blif;

@@ -80,5 +80,5 @@ fn run(folder: &Folder, net: Option<&[u8]>, sheet: Option<&[u8]>, due: &str) {
     folder.set("net", net);
     folder.set("sheet", sheet);
     let printed = folder.run("inspector", &[]);
-    same("the ruling", &[net.unwrap_or(&[]), sheet.unwrap_or(&[])], &printed, due);
+    same("the ruling", &[net.unwrap_or(&[]), sheet.unwrap_or(&[])], printed.as_str(), due);
 }

@@ -16,28 +16,40 @@ output 6 depth 2
 
 /// What the paper prints, its drawings, its limits, and tables longer than what is read; how many.
 pub fn by_hand(folder: &Folder) -> usize {
-    let mut cases = vec![(named("P1").bytes(), P1.to_string())];
-    cases.extend(paper().iter().map(|drawing| told(drawing.table.bytes())));
-    cases.extend(refused(limits()));
-    cases.extend(cut_short());
+    let cases = known();
     for (table, due) in &cases {
         same("the listing", &[table], &folder.run("lister", table), due);
     }
     cases.len()
 }
 
-/// Drawings at random, every third with a byte changed; how many.
+/// Tables by hand, each with what the lister prints.
+pub fn known() -> Vec<(Vec<u8>, String)> {
+    let mut cases = vec![(named("P1").bytes(), P1.to_string())];
+    cases.extend(paper().iter().map(|drawing| told(drawing.table.bytes())));
+    cases.extend(refused(limits()));
+    cases.extend(cut_short());
+    cases
+}
+
+/// Drawings at random; how many.
 pub fn drawn(folder: &Folder, rounds: usize, random: &mut Random) -> usize {
     for round in 0..rounds {
-        let nodes = random.between(1, if round % 8 == 0 { 192 } else { 24 });
-        let mut table = shapes::any(nodes, random).bytes();
-        if round % 3 == 0 {
-            let at = random.below(table.len());
-            table[at] = table[at].wrapping_add(random.between(1, 255) as u8);
-        }
+        let table = table(round, random);
         same("the listing", &[&table], &folder.run("lister", &table), &listing(&table));
     }
     rounds
+}
+
+/// A table at random, every eighth a large one, every third with a byte changed.
+pub fn table(round: usize, random: &mut Random) -> Vec<u8> {
+    let nodes = random.between(1, if round % 8 == 0 { 192 } else { 24 });
+    let mut table = shapes::any(nodes, random).bytes();
+    if round % 3 == 0 {
+        let at = random.below(table.len());
+        table[at] = table[at].wrapping_add(random.between(1, 255) as u8);
+    }
+    table
 }
 
 fn told(table: Vec<u8>) -> (Vec<u8>, String) {

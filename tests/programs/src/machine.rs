@@ -1,5 +1,6 @@
 //! A folder to run a program in.
 
+use std::fmt::Debug;
 use std::fs;
 use std::io::Write;
 use std::path::{Path, PathBuf};
@@ -29,20 +30,28 @@ impl Folder {
         }
     }
 
-    /// What the program prints.
-    pub fn run(&self, program: &str, standard_input: &[u8]) -> String {
+    /// What the program writes: to standard output, and to standard error.
+    pub fn streams(&self, program: &str, standard_input: &[u8]) -> (Vec<u8>, Vec<u8>) {
         let mut child = Command::new(Path::new(RUN))
             .arg(program)
             .current_dir(&self.path)
             .stdin(Stdio::piped())
             .stdout(Stdio::piped())
+            .stderr(Stdio::piped())
             .spawn()
             .expect("./run can be started");
         // A program that has read enough closes its end, so a failed write is no fault here.
         let _ = child.stdin.take().expect("it is piped").write_all(standard_input);
         let ended = child.wait_with_output().expect("the program ends");
         assert!(ended.status.success(), "{program} ended with {}", ended.status);
-        String::from_utf8(ended.stdout).expect("the program prints text")
+        (ended.stdout, ended.stderr)
+    }
+
+    /// The text that the program prints. It has nothing for standard error.
+    pub fn run(&self, program: &str, standard_input: &[u8]) -> String {
+        let (printed, other) = self.streams(program, standard_input);
+        assert!(other.is_empty(), "{program} wrote to standard error: {other:?}");
+        String::from_utf8(printed).expect("the program prints text")
     }
 }
 
@@ -53,9 +62,9 @@ impl Drop for Folder {
 }
 
 /// Ends with a difference if there is one.
-pub fn same(what: &str, bytes: &[&[u8]], printed: &str, due: &str) {
+pub fn same<T: Debug + PartialEq + ?Sized>(what: &str, bytes: &[&[u8]], printed: &T, due: &T) {
     if printed != due {
-        eprintln!("programs: {what} differs for {bytes:?}\nprinted: {printed}due: {due}");
+        eprintln!("programs: {what} differs for {bytes:?}\nprinted: {printed:?}\ndue: {due:?}");
         std::process::exit(1);
     }
 }

@@ -1,11 +1,13 @@
-//! Runs the lister and the inspector as programs, each in a folder of its own, and compares what
-//! they print with what the second implementation says that they print.
+//! Runs the lister, the mapper and the inspector as programs, in a folder of their own, and compares
+//! what they write with what the second implementation says that they write; the mapper's sheet with
+//! that of the library.
 //!
 //! `programs quick [SEED]` or `programs long [SEED]`; ends with 1 at the first difference.
 
 mod inspecting;
 mod listing;
 mod machine;
+mod mapping;
 
 use machine::Folder;
 use second::random::Random;
@@ -24,7 +26,11 @@ fn main() {
     let mut random = Random::seeded(seed);
     let listed = listing::by_hand(&folder) + listing::drawn(&folder, rounds, &mut random);
     let judged = inspecting::by_hand(&folder) + inspecting::drawn(&folder, rounds, &mut random);
-    println!("programs: {listed} runs of the lister, {judged} of the inspector, no difference (seed {seed})");
+    let mapped = mapping::by_hand(&folder) + mapping::drawn(&folder, rounds, &mut random);
+    println!(
+        "programs: {listed} runs of the lister, {judged} of the inspector, {mapped} of the mapper, \
+         no difference (seed {seed})"
+    );
 }
 
 fn usage() -> ! {
