@@ -25,7 +25,8 @@ use Rattle.drawing.specs.paper.Fields.{headK, headI, headVerdict}
 use Rattle.drawing.specs.paper.Reading.{found, afterHead, nodesOf, tableOf}
 use Rattle.drawing.specs.Reading.{Lines, Arrays, enough, noFanins, withInputs, putGate, putGates, filled}
 use Rattle.drawing.proofs.Verdicts.{not-sound}
-use Rattle.drawing.proofs.SoundTables.{SoundLine, SoundLines, table-sound}
+use Rattle.drawing.specs.Lines.{SoundLine}
+use Rattle.drawing.proofs.SoundTables.{SoundLines, table-sound}
 use Rattle.drawing.proofs.Filled.{no-fanins-length}
 use Rattle.drawing.proofs.Wholes.{long-enough}
 

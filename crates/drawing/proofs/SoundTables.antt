@@ -24,16 +24,10 @@ use Rattle.drawing.specs.paper.Fields.{headVerdict, headK, headG, gateM,
 use Rattle.drawing.specs.paper.Reading.{GatesFound, gatesFrom, withGate, OutputsFound, outputsFrom, outputsAt, withOutput, noMore, Found}
 use Rattle.drawing.specs.paper.Reading.{found, gatesOf, nodesOf, numbersOf, afterHead, afterGates}
 use Rattle.drawing.specs.Reading.{Arrays, enough, replyOf, reading}
+use Rattle.drawing.specs.Lines.{SoundLine}
 use Rattle.drawing.proofs.Verdicts.{not-sound}
 use Rattle.drawing.proofs.Ids.{length-ids}
 use Rattle.drawing.proofs.SoundFields.{neither, SoundHead, formed-of, head-sound, SoundGate, gate-sound, output-sound}
-
--- A gate's line keeps the paper's numbers.
-pub record SoundLine (k nodes : ℕ) (g : GateLine) : Type 0 where
-  pub some : 1 ≤ length (g .fanins)
-  pub few : length (g .fanins) ≤ k
-  pub nodes-only : (v : ℕ) → List·Memᴰ v (g .fanins) → v < nodes
-  pub rows : g .table < 2 ^ (2 ^ length (g .fanins))
 
 pub data SoundLines (k nodes : ℕ) : List GateLine → Type 0 where
   none : SoundLines k nodes []

@@ -5,3 +5,4 @@ pub mod Forms
 pub mod Refusals
 pub mod Reading
 pub mod Filling
+pub mod Lines

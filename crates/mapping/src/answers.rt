@@ -4,11 +4,9 @@ use drawing::refusals::number_of;
 use drawing::refusals::place_of;
 use sheet::limits::SHEET_ROOM;
 use taking::LOOP;
+use taking::ROOM;
 ghost use mathlib.Core.Path.{_≡_};
 ghost use Rattle.mapping.specs.paper.Maps.{number, place};
-
-// "8 Room"
-const ROOM: u64 = 8;
 
 pub fn number_of_reply(reply: Reply) -> u64
     ensures { λ w. ⌜ w ≡ number reply ⌝ }

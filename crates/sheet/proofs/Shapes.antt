@@ -42,7 +42,7 @@ rises Rising.none = refl
 rises Rising.one = refl
 rises (Rising.more {u = u} {v = v} less later) = rw (lt-ltb u v less) (rises later)
 
-none-from : (n : ℕ) (vs : List ℕ) → Below n vs → someFrom n vs ≡ false
+pub none-from : (n : ℕ) (vs : List ℕ) → Below n vs → someFrom n vs ≡ false
 unfolding someFrom
 none-from n [] below = refl
 none-from n (v ∷ vs) below = rw (lt-leb n v (below v (List·Memᴰ·head refl))) (none-from n vs (λ u m. below u (List·Memᴰ·tail m)))

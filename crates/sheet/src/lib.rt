@@ -1,5 +1,5 @@
 // The bytes of a mapping sheet, written into a buffer that the caller lends.
-mod bytes;
+pub mod bytes;
 pub mod faults;
 pub mod limits;
 

@@ -18,8 +18,10 @@ pub enum Taking {
     TooShort,
 }
 
-// The paper's number of LoopAt, whoever answers it.
+// The paper's numbers of LoopAt and of a buffer that is too short, whoever answers them.
 pub const LOOP: u64 = 7;
+
+pub const ROOM: u64 = 8;
 
 // Orders the gates of a table that was read whole.
 fn order_table(numbers: Numbers, fanins: &[u16], order: &mut [u16], marks: &mut [u8]) -> Taking

@@ -13,16 +13,13 @@ use Rattle.drawing.specs.paper.Table.{tablesOf}
 use Rattle.drawing.specs.paper.Reading.{found, tableOf, rootsOf}
 use Rattle.walking.specs.paper.Loops.{loopNumber}
 use Rattle.taking.specs.paper.Taken.{drawn, ReadsWhole, IsTaken}
+use Rattle.taking.specs.paper.Says.{roomNumber}
 use Rattle.sheet.specs.paper.Limits.{sheetRoom}
 use Rattle.sheet.specs.paper.Sheet.{Sheet}
 use Rattle.sheet.specs.paper.Encoding.{narrow, encode}
 use Rattle.keeping.specs.paper.Mappers.{MappersSheet}
 use Rattle.mapping.specs.declared.Reply.{Reply}
 use Rattle.mapping.specs.declared.Reply.the-variants.{Mapped, Refused, LoopAt, Room}
-
--- "8 Room"
-abbrev pub roomNumber : ℕ
-roomNumber = 8
 
 -- "Every refusal returns its number and place"; "Success returns the sheet's length", and then the number is 0
 abbrev pub said : Reply → ℕ × ℕ

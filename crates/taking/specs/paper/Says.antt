@@ -14,6 +14,10 @@ use Rattle.taking.specs.declared.Taking.{Taking}
 use Rattle.taking.specs.declared.Taking.the-variants.{Taken, Refused, LoopAt, TooShort}
 use Rattle.taking.specs.paper.Taken.{drawn, ReadsWhole, IsTaken}
 
+-- "8 Room": the number of a buffer that is too short, whoever is lent it
+abbrev pub roomNumber : ℕ
+roomNumber = 8
+
 -- number and place of a refusal, 0 and 0 where there is none; arrays that are too short are no matter of the paper
 abbrev pub said : Taking → ℕ × ℕ
 said (Taken n) = (0, 0)
