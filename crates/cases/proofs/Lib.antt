@@ -4,3 +4,8 @@ pub mod Paths
 pub mod Carried
 pub mod Computed
 pub mod Traps
+pub mod Readings
+pub mod Stopping
+pub mod NameTests
+pub mod Answered
+pub mod Typed

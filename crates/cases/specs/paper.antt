@@ -1,2 +1,4 @@
 pub mod Cases
 pub mod Drawings
+pub mod Answers
+pub mod Texts

@@ -1,3 +1,4 @@
 pub mod Mapper
 pub mod Inspector
 pub mod Longest
+pub mod Equations

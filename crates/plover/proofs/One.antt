@@ -13,7 +13,10 @@ use Rattle.mapping.proofs.Mapped.{withSheet, OneReply, maps-one}
 use Rattle.inspecting.specs.declared.Inspection.{Inspection}
 use Rattle.inspecting.specs.paper.Inspecting as inspector
 use Rattle.inspecting.proofs.Replies.{one-reply}
-use Rattle.plover.specs.paper.Words.{half, wordOf, MapsAs, InspectsAs}
+use Rattle.compiling.specs.declared.Reply as compiling
+use Rattle.compiling.specs.paper.Compiles as compiler
+use Rattle.compiling.proofs.One.{compiles-one}
+use Rattle.plover.specs.paper.Words.{half, wordOf, MapsAs, InspectsAs, CompilesAs}
 
 -- the halves of a word
 parts : (number place w : ℕ) → place < half → w ≡ wordOf number place → (w / half ≡ number) × (w % half ≡ place)
@@ -26,6 +29,10 @@ map-word-says {w = w} m = parts (mapper.number (m .reply)) (mapper.place (m .rep
 pub inspect-word-says : {s t : List ℕ} {w : ℕ} (m : InspectsAs s t w) →
     (w / half ≡ inspector.number (m .reply)) × (w % half ≡ inspector.place (m .reply))
 inspect-word-says {w = w} m = parts (inspector.number (m .reply)) (inspector.place (m .reply)) w (m .fits) (m .word)
+
+pub equations-word-says : {s : List ℕ} {k : ℕ} {before : List ℕ} {w : ℕ} {after : List ℕ} (m : CompilesAs s k before w after) →
+    (w / half ≡ compiler.number (m .reply)) × (w % half ≡ compiler.place (m .reply))
+equations-word-says {w = w} m = parts (compiler.number (m .reply)) (compiler.place (m .reply)) w (m .fits) (m .word)
 
 pub data OneWord (s before : List ℕ) (w v : ℕ) (a b : List ℕ) : Type 0 where
   same : w ≡ v → a ≡ b → OneWord s before w v a b
@@ -48,3 +55,12 @@ inspectWord r = wordOf (inspector.number r) (inspector.place r)
 
 pub inspect-word-one : {s t : List ℕ} {w v : ℕ} → InspectsAs s t w → InspectsAs s t v → w ≡ v
 inspect-word-one {s} {t} m n = m .word ∙ ap inspectWord (one-reply s t (m .inspects) (n .inspects)) ∙ sym (n .word)
+
+abbrev equationsWord : compiling.Reply → ℕ
+equationsWord r = wordOf (compiler.number r) (compiler.place r)
+
+pub equations-word-one : {s : List ℕ} {k : ℕ} {before : List ℕ} {w v : ℕ} {a b : List ℕ} → CompilesAs s k before w a → CompilesAs s k before v b →
+    (w ≡ v) × (a ≡ b)
+equations-word-one m n =
+    let (is, tables) = compiles-one (m .compiles) (n .compiles) in
+    (m .word ∙ ap equationsWord is ∙ sym (n .word), tables)

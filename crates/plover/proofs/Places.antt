@@ -1,5 +1,5 @@
 -- Every place that a reply names fits 32 bits: the places in a table's bytes and a sheet's are small, a gate is one of 192 nodes, a sheet of the
--- mapper's has at most 43,554 bytes, and a depth is at most 191.
+-- mapper's has at most 43,554 bytes, and a depth is at most 191; a text in the grammar has at most 8,192 bytes, and its table at most 4,096.
 use Prim.Native.Nat.{ℕ, _-_, _≤_, _<_}
 use native.Mathlib.Omega.{arith}
 use mathlib.Core.Path.{_≡_, refl, ap, sym, subst}
@@ -33,6 +33,14 @@ use Rattle.inspecting.specs.paper.Inspecting as inspector
 use Rattle.inspecting.specs.paper.Inspecting.{Inspects, dueIn, sheetIn, replyOf}
 use Rattle.inspecting.proofs.Places.{fault-place, depth-most}
 use Rattle.inspecting.proofs.Sound.{roots-rise}
+use Rattle.grammar.specs.paper.Grammar.{System}
+use Rattle.grammar.specs.paper.Names.{Misnamed}
+use Rattle.grammar.specs.paper.Gates.{tableFor}
+use Rattle.grammar.proofs.Places.{use-placed, definition-placed, placed-inside}
+use Rattle.compiling.specs.declared.Reply as compiling
+use Rattle.compiling.specs.paper.Compiles as compiler
+use Rattle.compiling.specs.paper.Compiles.{Typed, Drawable, Compiles}
+use Rattle.compiling.proofs.Drawables.{table-within, table-fits}
 use Rattle.plover.specs.paper.Words.{half}
 
 sheet-length : (s : List ℕ) (sheet : Sheet) → IsTaken s → MapsTo s sheet → length (encode narrow sheet) ≤ 43554
@@ -123,3 +131,23 @@ module _ (s t : List ℕ) (bytes : (i : ℕ) → getD t i 0 < 256) where
   inspect-place r (Inspects.loop e l) = omega (arith, l .gate .below, nodes-few s e)
   inspect-place r (Inspects.faulty d e) = omega (arith, fault-place (dueIn s) t bytes (omega (arith, few (d .whole))) e)
   inspect-place r (Inspects.ruled {x = x} d sound first) = reply-place (sheetIn s t .depth) x (depth-most (dueIn s) t sound) (broken-low d sound x first)
+
+-- The replies to a text of equations: a name stands inside the text, and a gate is a node of its table
+
+misnamed-inside : {s : List ℕ} {sys : System} {p : ℕ} → Typed s sys → Misnamed s sys p → p ≤ 8192
+misnamed-inside typed (Misnamed.undefined used none) = omega (arith, placed-inside (use-placed (typed .well-formed) used), typed .short)
+misnamed-inside typed (Misnamed.again d defined earlier less same) = omega (arith, placed-inside (definition-placed (typed .well-formed) defined), typed .short)
+
+table-nodes : {s : List ℕ} {k : ℕ} {sys : System} → Drawable s k sys → netOf (tableFor s k sys) .nodes ≤ 192
+unfolding netOf
+table-nodes drawable = table-within (drawable .typed) (drawable .numbers) .nodes-most
+
+pub equations-place : {s : List ℕ} {k : ℕ} {before : List ℕ} (r : compiling.Reply) {after : List ℕ} → Compiles s k before r after → compiler.place r < half
+equations-place r (Compiles.long over is same) = omega (arith, ap compiler.place is)
+equations-place r (Compiles.ungrammatical short none longest is same) = omega (arith, ap compiler.place is, longest .shared .within)
+equations-place r (Compiles.misnamed typed first is same) = omega (arith, ap compiler.place is, misnamed-inside typed (first .misnamed))
+equations-place r (Compiles.outside typed named out is same) = omega (arith, ap compiler.place is)
+equations-place r (Compiles.loop drawable lowest is same) = omega (arith, ap compiler.place is, lowest .gate .below, table-nodes drawable)
+equations-place r (Compiles.room drawable none short is same) = omega (arith, ap compiler.place is)
+equations-place r (Compiles.compiled drawable none long is same) =
+    omega (arith, ap compiler.place is, table-fits (drawable .typed) (drawable .numbers))

@@ -12,6 +12,9 @@ use Rattle.mapping.specs.paper.Maps as mapper
 use Rattle.inspecting.specs.declared.Inspection.{Inspection}
 use Rattle.inspecting.specs.declared.Inspection.the-variants.{Accepted, Refused, LoopAt, Shape, Cut, Label, Paths, Cover, Function, Depth}
 use Rattle.inspecting.specs.paper.Inspecting as inspector
+use Rattle.compiling.specs.declared.Reply as compiling
+use Rattle.compiling.specs.declared.Reply.the-variants as compiled
+use Rattle.compiling.specs.paper.Compiles as compiler
 use Rattle.plover.specs.paper.Words.{half, wordOf}
 
 pub word-as : {number place a b w : ℕ} → a ≡ number → b ≡ place → w ≡ wordOf a b → w ≡ wordOf number place
@@ -43,9 +46,20 @@ inspect-number (Cover gate) = omega arith
 inspect-number (Function gate) = omega arith
 inspect-number Depth = omega arith
 
+equations-number : (r : compiling.Reply) → compiler.number r < half
+equations-number (compiled.Compiled n) = omega arith
+equations-number (compiled.Text at) = omega arith
+equations-number (compiled.Name at) = omega arith
+equations-number compiled.Numbers = omega arith
+equations-number (compiled.LoopAt gate) = omega arith
+equations-number compiled.Room = omega arith
+
 -- what a word is made of fits its halves
 pub map-fits : (r : Reply) {a b : ℕ} → a ≡ mapper.number r → b ≡ mapper.place r → mapper.place r < half → (a < half) × (b < half)
 map-fits r number-is place-is fits = (omega (arith, number-is, map-number r), omega (arith, place-is, fits))
 
 pub inspect-fits : (r : Inspection) {a b : ℕ} → a ≡ inspector.number r → b ≡ inspector.place r → inspector.place r < half → (a < half) × (b < half)
 inspect-fits r number-is place-is fits = (omega (arith, number-is, inspect-number r), omega (arith, place-is, fits))
+
+pub equations-fits : (r : compiling.Reply) {a b : ℕ} → a ≡ compiler.number r → b ≡ compiler.place r → compiler.place r < half → (a < half) × (b < half)
+equations-fits r number-is place-is fits = (omega (arith, number-is, equations-number r), omega (arith, place-is, fits))

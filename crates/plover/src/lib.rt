@@ -1,11 +1,11 @@
-// The library for programs in C and in Rust: the mapper and the inspector, each with its reply as a word.
+// The library for programs in C and in Rust: the mapper, the inspector and the reader of equations, each with its reply as a word.
 use inspecting::answers::number_of_inspection;
 use inspecting::answers::place_of_inspection;
 use mapping::answers::number_of_reply;
 use mapping::answers::place_of_reply;
 ghost use mathlib.Core.Path.{_≡_};
 ghost use Prim.Native.Nat.{_<_};
-ghost use Rattle.plover.specs.paper.Words.{half, wordOf, MapsAs, InspectsAs};
+ghost use Rattle.plover.specs.paper.Words.{half, wordOf, MapsAs, InspectsAs, CompilesAs};
 
 // 2 to the 32: what the upper half of a word counts.
 const HALF: u64 = 4294967296;
@@ -35,4 +35,15 @@ pub extern "C" fn plover_inspect(table: &[u8], sheet: &[u8]) -> u64
 {
     let reply = inspecting::inspect(table, sheet);
     word(number_of_inspection(reply), place_of_inspection(reply))
+}
+
+// `compiling::compile`, with its reply as a word.
+#[no_mangle]
+pub extern "C" fn plover_equations(text: &[u8], k: u64, table: &mut [u8]) -> u64
+    ensures { λ w. ⌜ CompilesAs (now (text .entry)) k (now (table .entry)) w (now (table .exit)) ⌝ }
+{
+    let reply = compiling::compile(text, k, table);
+    let number = compiling::answers::number_of_reply(reply);
+    let place = compiling::answers::place_of_reply(reply);
+    word(number, place)
 }

@@ -27,7 +27,8 @@ use Rattle.sheet.specs.paper.Rules.{Rule, Found, FirstBroken, labelsOf}
 use Rattle.keeping.specs.paper.Right.{Right}
 use Rattle.keeping.specs.paper.Same.{SameButEvidence}
 use Rattle.mapping.specs.declared.Reply.{Reply}
-use Rattle.mapping.specs.paper.Maps.{Maps, roomNumber, said, number, place}
+use Rattle.taking.specs.paper.Says.{roomNumber}
+use Rattle.mapping.specs.paper.Maps.{Maps, said, number, place}
 use Rattle.inspecting.specs.declared.Inspection.{Inspection}
 use Rattle.inspecting.specs.declared.Inspection.the-variants.{Accepted}
 use Rattle.inspecting.specs.paper.Inspecting.{Inspects, KeepsAll, KeepsIn, rulesIn, dueIn, sheetIn, replyOf}

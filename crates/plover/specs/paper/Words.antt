@@ -1,5 +1,5 @@
 -- Replies as words, for programs in other languages: the paper's number in the upper 32 bits, 0 where all is well, and in the lower 32 the place, or
--- the sheet's length, or the depth.
+-- the sheet's or the table's length, or the depth.
 use Prim.Native.Nat.{ℕ, _+_, _*_, _<_}
 use mathlib.Core.Path.{_≡_}
 use mathlib.Core.List.{List}
@@ -7,6 +7,8 @@ use Rattle.mapping.specs.declared.Reply.{Reply}
 use Rattle.mapping.specs.paper.Maps as mapper
 use Rattle.inspecting.specs.declared.Inspection.{Inspection}
 use Rattle.inspecting.specs.paper.Inspecting as inspector
+use Rattle.compiling.specs.declared.Reply as compiling
+use Rattle.compiling.specs.paper.Compiles as compiler
 
 -- 2 to the 32
 abbrev pub half : ℕ
@@ -28,3 +30,10 @@ pub record InspectsAs (s t : List ℕ) (w : ℕ) : Type 0 where
   pub inspects : inspector.Inspects s t reply
   pub fits : inspector.place reply < half
   pub word : w ≡ wordOf (inspector.number reply) (inspector.place reply)
+
+-- A word for the reply to a text of equations, which leaves the buffer as `compile` does.
+pub record CompilesAs (s : List ℕ) (k : ℕ) (before : List ℕ) (w : ℕ) (after : List ℕ) : Type 0 where
+  pub reply : compiling.Reply
+  pub compiles : compiler.Compiles s k before reply after
+  pub fits : compiler.place reply < half
+  pub word : w ≡ wordOf (compiler.number reply) (compiler.place reply)

@@ -1,0 +1,2 @@
+pub mod paper
+pub mod Stages

@@ -1,0 +1,3 @@
+pub mod paper
+pub mod Machine
+pub mod Stored

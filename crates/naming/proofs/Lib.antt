@@ -1,0 +1,11 @@
+pub mod Alike
+pub mod Leasts
+pub mod Singles
+pub mod Threes
+pub mod Pairs
+pub mod Uses
+pub mod Misnames
+pub mod NodesNamed
+pub mod Lines
+pub mod Reading
+pub mod One

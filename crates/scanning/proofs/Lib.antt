@@ -1,0 +1,13 @@
+pub mod Holding
+pub mod Ends
+pub mod Bangs
+pub mod Clears
+pub mod Taken
+pub mod Factors
+pub mod Chains
+pub mod Entries
+pub mod NameLines
+pub mod LeftSides
+pub mod RightSides
+pub mod EquationLines
+pub mod WholeTexts

@@ -1,0 +1,4 @@
+pub mod Bytes
+pub mod Keywords
+pub mod Words
+pub mod One

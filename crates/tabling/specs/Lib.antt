@@ -1,0 +1,5 @@
+pub mod paper
+pub mod Within
+pub mod Gates
+pub mod Fields
+pub mod Judged
