@@ -1,7 +1,8 @@
-//! The host library from Rust: maps p1.net of this folder, inspects the sheet, and shows a refusal
-//! of each function. ../host/run builds it and runs it in the repository's top folder.
+//! The host library from Rust: maps p1.net of this folder, inspects the sheet, makes the table of
+//! mux.eq, and shows a refusal of each function. ../host/run builds it and runs it in the
+//! repository's top folder.
 
-use plover::{inspect, map, Inspection, Mapping, ROOM};
+use plover::{equations, inspect, map, Compiling, Inspection, Mapping, ROOM, TABLE_ROOM};
 use std::{fs, io};
 
 fn show_mapping(what: &str, reply: Mapping) {
@@ -18,6 +19,13 @@ fn show_inspection(what: &str, reply: Inspection) {
     }
 }
 
+fn show_compiling(what: &str, reply: Compiling) {
+    match reply {
+        Compiling::Compiled(length) => println!("{what}: table bytes {length}"),
+        Compiling::Refused(refusal) => println!("{what}: {refusal}"),
+    }
+}
+
 fn main() -> io::Result<()> {
     let table = fs::read("examples/p1.net")?;
     let mut buffer = vec![0; ROOM];
@@ -31,5 +39,13 @@ fn main() -> io::Result<()> {
     }
     let looped = fs::read("examples/p9.net")?;
     show_mapping("p9 mapped", map(&looped, &mut buffer));
+    let text = fs::read("examples/mux.eq")?;
+    let mut table = [0; TABLE_ROOM];
+    let compiled = equations(&text, 3, &mut table);
+    show_compiling("mux compiled", compiled);
+    if let Compiling::Compiled(length) = compiled {
+        show_mapping("its table mapped", map(&table[..length], &mut buffer));
+    }
+    show_compiling("at K 1", equations(&text, 1, &mut table));
     Ok(())
 }

@@ -4,6 +4,7 @@
 
 mod careless;
 mod drawn;
+mod equations;
 mod inspecting;
 mod library;
 mod mapped;
@@ -37,10 +38,11 @@ impl Size {
 /// Compares one subject, from a seed, and says what differs.
 type Subject = fn(Size, u64) -> Result<(), String>;
 
-const SUBJECTS: [(&str, Subject); 3] = [
+const SUBJECTS: [(&str, Subject); 4] = [
     ("reading", reading::compare),
     ("mapping", mapping::compare),
     ("inspecting", inspecting::compare),
+    ("equations", equations::compare),
 ];
 
 const USUAL_SEED: u64 = 20_231_117;

@@ -1,6 +1,6 @@
 //! Mapping: `plover_map` against the second mapper, in groups of cases.
 
-mod buffer;
+pub mod buffer;
 pub mod comparison;
 pub mod known;
 mod labels;

@@ -1,7 +1,8 @@
-//! Wrong readers, mappers and inspectors in the library's place, each of which has to be noticed,
+//! Wrong readers, mappers and inspectors, and readers of equations, in the library's place, each of which has to be noticed,
 //! and by the comparison that is there for it. They are made from the second implementation, which
 //! stands in for the library where it is right.
 
+mod equations;
 mod inspectors;
 mod mappers;
 mod readers;
@@ -10,13 +11,22 @@ use crate::library::Library;
 use crate::reply::Reply;
 use second::inspect::inspect;
 use second::sheet::Sheet;
-use second::{sheet, table, Refused};
+use second::{equations as texts, sheet, table, Refused};
 
 /// The second implementation with the library's faces.
-const STAND_IN: Library = Library { map: &map, inspect: &inspect };
+const STAND_IN: Library = Library { map: &map, inspect: &inspect, equations: &equations };
 
 fn map(table: &[u8], buffer: &mut [u8]) -> Reply {
-    let bytes = sheet::map(table, buffer.len())?;
+    stored(sheet::map(table, buffer.len()), buffer)
+}
+
+fn equations(text: &[u8], k: u64, buffer: &mut [u8]) -> Reply {
+    stored(texts::compile(text, k, buffer.len()), buffer)
+}
+
+/// Stores bytes, if there are some, and says how many.
+fn stored(bytes: Result<Vec<u8>, Refused>, buffer: &mut [u8]) -> Reply {
+    let bytes = bytes?;
     buffer[..bytes.len()].copy_from_slice(&bytes);
     Ok(bytes.len())
 }

@@ -1,5 +1,5 @@
 //! What a function of the library, or the second implementation, says to a table and a buffer or a
-//! sheet.
+//! sheet, or to a text.
 
 use second::Refused;
 

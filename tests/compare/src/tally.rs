@@ -2,11 +2,19 @@
 
 use crate::reply::Reply;
 
-#[derive(Default)]
+/// No refusal has a number as large as this.
+const NUMBERS: usize = 44;
+
 pub struct Tally {
     kinds: Vec<(&'static str, usize)>,
     /// By the paper's number, 0 standing for what is done.
-    replies: [usize; 32],
+    replies: [usize; NUMBERS],
+}
+
+impl Default for Tally {
+    fn default() -> Tally {
+        Tally { kinds: Vec::new(), replies: [0; NUMBERS] }
+    }
 }
 
 impl Tally {

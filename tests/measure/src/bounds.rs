@@ -1,12 +1,18 @@
 //! Bounds on work. What blows up a careless program (a chain of AND(x,x), gates that all read the
 //! same two nodes, diamonds) must cost no more than a few times what an ordinary drawing of the
 //! same size costs, both measured in this run; where instructions are counted, no more than so many
-//! for a pair of nodes as well. No bound is in seconds.
+//! for a pair of nodes as well.
+//!
+//! The worst texts of equations have a bound in instructions, where these are counted. There the
+//! program is no guest of an emulator either, and their times have one too; no other bound is in
+//! seconds.
 
 use crate::drawings::{careless, usual, Named};
-use crate::meter::Meter;
-use crate::subject::{Maker, Subject, Task};
+use crate::meter::{nanoseconds, Meter};
+use crate::subject::{Maker, Subject, Task, EQUATIONS, K};
+use crate::texts;
 use plain::table::NODE_LIMIT;
+use second::equations::{compile, TABLE_ROOM};
 
 /// The ordinary drawing, by name.
 const ORDINARY: &str = "Deep K 2";
@@ -14,6 +20,11 @@ const ORDINARY: &str = "Deep K 2";
 const MOST_TIMES: u64 = 4;
 /// Instructions for a pair of nodes: three times what the dearest takes today.
 const MOST_A_PAIR: u64 = 320;
+
+/// Instructions for a text, and nanoseconds. The dearest compares 2.8 million pairs of words, and
+/// 5.6 million pairs of bytes in them.
+const MOST_A_TEXT: u64 = 340_000_000;
+const MOST_TIME_A_TEXT: u64 = 20_000_000;
 
 /// Checks all of them, and says which cost too much.
 pub fn check() -> Result<(), String> {
@@ -30,6 +41,50 @@ pub fn check() -> Result<(), String> {
     }
     let (count, unit) = (careless().len(), meter.unit());
     println!("bounds: {count} careless drawings mapped and inspected within bounds, in {unit}");
+    check_texts(meter)
+}
+
+/// Every one of the texts is answered as it should be, at a cost within bounds.
+fn check_texts(meter: Meter) -> Result<(), String> {
+    let mut most = [0, 0];
+    for text in texts::all() {
+        check_reply(&text)?;
+        if meter == Meter::Instructions {
+            let costs = [meter.cost(EQUATIONS, &text)?, nanoseconds(&[EQUATIONS], &text)?[0]];
+            check_text(&text, costs)?;
+            most = [most[0].max(costs[0]), most[1].max(costs[1])];
+        }
+    }
+    let (count, milliseconds) = (texts::all().len(), most[1] as f64 / 1e6);
+    print!("bounds: {count} texts of equations ");
+    match meter {
+        Meter::Instructions => {
+            println!("within bounds, at most {} instructions, {milliseconds:.1} ms", most[0])
+        }
+        Meter::Nanoseconds => println!("answered, not measured"),
+    }
+    Ok(())
+}
+
+/// A cost is worth nothing where the answer is wrong.
+fn check_reply(text: &Named) -> Result<(), String> {
+    let found = plover::equations(&text.bytes, K, &mut [0; TABLE_ROOM]).length();
+    let found = found.map_err(|refusal| (refusal.number, refusal.place as usize));
+    let due = compile(&text.bytes, K, TABLE_ROOM).map(|table| table.len());
+    match found == due {
+        true => Ok(()),
+        false => Err(format!("equations, {}: {found:?}, due {due:?}", text.name)),
+    }
+}
+
+fn check_text(text: &Named, [instructions, time]: [u64; 2]) -> Result<(), String> {
+    let name = &text.name;
+    if instructions > MOST_A_TEXT {
+        return Err(format!("{name}: {instructions} instructions, allowed: {MOST_A_TEXT}"));
+    }
+    if time > MOST_TIME_A_TEXT {
+        return Err(format!("{name}: {time} nanoseconds, allowed: {MOST_TIME_A_TEXT}"));
+    }
     Ok(())
 }
 
@@ -54,6 +109,14 @@ fn check_one(
 #[cfg(test)]
 mod tests {
     use super::*;
+
+    #[test]
+    fn bounds_of_texts_can_fail() {
+        let text = &texts::all()[0];
+        assert_eq!(check_text(text, [MOST_A_TEXT, MOST_TIME_A_TEXT]), Ok(()));
+        assert!(check_text(text, [MOST_A_TEXT + 1, 0]).is_err());
+        assert!(check_text(text, [0, MOST_TIME_A_TEXT + 1]).is_err());
+    }
 
     #[test]
     fn both_bounds_can_fail() {

@@ -4,15 +4,15 @@ use plain::shapes::{ten, Shape};
 use plain::table::{write, NODE_LIMIT};
 use plain::Drawing;
 
-/// A gate table as bytes, and what the tables call it.
+/// A gate table as bytes, or a text of equations, and what the tables call it.
 #[derive(Clone)]
 pub struct Named {
     pub name: String,
-    pub table: Vec<u8>,
+    pub bytes: Vec<u8>,
 }
 
 fn named(name: String, drawing: &Drawing) -> Named {
-    Named { name, table: write(drawing) }
+    Named { name, bytes: write(drawing) }
 }
 
 /// Ten drawings of the shapes that members draw.
@@ -63,8 +63,8 @@ mod tests {
     fn each_name_is_one_drawing_of_full_size() {
         let names: HashSet<String> = all().into_iter().map(|drawing| drawing.name).collect();
         assert_eq!(names.len(), all().len());
-        for Named { name, table } in all() {
-            let read = read(&table).table().expect("it is a table");
+        for Named { name, bytes } in all() {
+            let read = read(&bytes).table().expect("it is a table");
             assert_eq!(read.inputs + read.gates.len(), NODE_LIMIT, "{name}");
         }
     }

@@ -15,9 +15,10 @@ mod scratch;
 mod stack;
 mod subject;
 mod table;
+mod texts;
 mod tools;
 
-use crate::subject::{Job, Subject};
+use crate::subject::{Job, Subject, Task};
 use std::env;
 use std::process::ExitCode;
 
@@ -61,9 +62,13 @@ fn outside(size: &str, seed: Option<&str>) -> Result<(), String> {
     outside::check(size, seed)
 }
 
-fn call(subject: &str, drawing: &str) -> Result<(), String> {
+fn call(subject: &str, name: &str) -> Result<(), String> {
     let subject = Subject::named(subject).ok_or_else(|| format!("no subject {subject}"))?;
-    let drawing = drawings::find(drawing).ok_or_else(|| format!("no drawing {drawing}"))?;
-    Job::new(subject, &drawing.table).call();
+    let found = match subject.task {
+        Task::Equations => texts::find(name),
+        Task::Map | Task::Inspect => drawings::find(name),
+    };
+    let found = found.ok_or_else(|| format!("no drawing or text {name}"))?;
+    Job::new(subject, &found.bytes).call();
     Ok(())
 }

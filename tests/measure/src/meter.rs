@@ -72,7 +72,7 @@ fn collected(printed: &str) -> Result<u64, String> {
 /// The least times of these subjects. They are called by turns, so that what else the machine does
 /// falls on all of them.
 pub fn nanoseconds(subjects: &[Subject], drawing: &Named) -> Result<Vec<u64>, String> {
-    let job = |&subject: &Subject| Job::new(subject, &drawing.table);
+    let job = |&subject: &Subject| Job::new(subject, &drawing.bytes);
     let mut jobs: Vec<Job> = subjects.iter().map(job).collect();
     let (sender, receiver) = mpsc::channel();
     // Not joined: where a call has no end, neither has the thread.

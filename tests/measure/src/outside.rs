@@ -142,7 +142,7 @@ fn asked(name: String, table: Table) -> Result<Option<Asked>, String> {
 fn paper_and_full(full: bool) -> Result<Vec<Asked>, String> {
     let paper = second::drawings::paper().into_iter().map(|one| (one.name.to_string(), one.table));
     let full = all().into_iter().filter(|_| full).map(|one| {
-        let table = read(&one.table).table().expect("what is measured is a table");
+        let table = read(&one.bytes).table().expect("what is measured is a table");
         (one.name, table)
     });
     paper.chain(full).filter_map(|(name, table)| asked(name, table).transpose()).collect()

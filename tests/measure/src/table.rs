@@ -5,9 +5,11 @@ use crate::drawings::{careless, ladders, usual, Named};
 use crate::meter::{nanoseconds, Meter};
 use crate::scratch::Scratch;
 use crate::stack::stack_of;
-use crate::subject::{are_alike, sheet_of, Maker, Subject, Task};
+use crate::subject::{are_alike, sheet_of, Maker, Subject, Task, EQUATIONS, K};
+use crate::texts;
 use crate::tools::Tool;
 use plain::mapping::SHEET_ROOM;
+use plover::TABLE_ROOM;
 use second::table::read;
 
 /// One drawing's costs, of the library and of the ordinary program.
@@ -18,7 +20,7 @@ struct Row {
 
 impl Row {
     fn measure(meter: Meter, drawing: &Named) -> Result<Row, String> {
-        if !are_alike(&drawing.table) {
+        if !are_alike(&drawing.bytes) {
             return Err(format!("{}: the ordinary program's sheet is another", drawing.name));
         }
         let cost = |maker, task| meter.cost(Subject { maker, task }, drawing);
@@ -41,6 +43,28 @@ pub fn print() -> Result<(), String> {
         print_costs(meter, &drawings)?;
         println!("\n### Stack and time of {title} of 192 nodes\n");
         print_others(&drawings)?;
+    }
+    println!("\n### Equations: the texts of 8,192 bytes that cost most\n");
+    print_texts(meter)
+}
+
+/// What the library's reader of equations costs.
+fn print_texts(meter: Meter) -> Result<(), String> {
+    println!("| text | thousands of {} | ms | stack, bytes | reply |", meter.unit());
+    println!("|{}", "---|".repeat(5));
+    for text in texts::all() {
+        let cost = meter.cost(EQUATIONS, &text)?;
+        let time = nanoseconds(&[EQUATIONS], &text)?[0] as f64 / 1e6;
+        let buffer = std::sync::Mutex::new([0; TABLE_ROOM]);
+        let stack = stack_of(|| {
+            let mut buffer = buffer.lock().expect("no call panics");
+            plover::equations(&text.bytes, K, &mut buffer[..]);
+        });
+        let reply = match plover::equations(&text.bytes, K, &mut [0; TABLE_ROOM]).length() {
+            Ok(length) => format!("{length} bytes"),
+            Err(refusal) => refusal.to_string(),
+        };
+        println!("| {} | {} | {time:.2} | {stack} | {reply} |", text.name, thousands(cost));
     }
     Ok(())
 }
@@ -96,7 +120,7 @@ fn print_others(drawings: &[Named]) -> Result<(), String> {
             cells.extend(times.iter().map(|time| format!("{time:.2}")));
             cells.push(format!("{:.2}", times[0] / times[1]));
         }
-        let table = read(&drawing.table).table().expect("what is measured is a table");
+        let table = read(&drawing.bytes).table().expect("what is measured is a table");
         scratch.write(&scratch.gates(), &blif::gates(&table))?;
         for tool in installed {
             cells.push(match tool {
@@ -119,14 +143,14 @@ fn milliseconds(time: f64) -> String {
 
 /// The stack that the library's two functions take.
 fn stacks(drawing: &Named) -> Result<[usize; 2], String> {
-    let sheet = sheet_of(&drawing.table).map_err(|refusal| refusal.to_string())?;
+    let sheet = sheet_of(&drawing.bytes).map_err(|refusal| refusal.to_string())?;
     let buffer = std::sync::Mutex::new(vec![0; SHEET_ROOM]);
     let map = stack_of(|| {
         let mut buffer = buffer.lock().expect("no call panics");
-        plover::map(&drawing.table, &mut buffer);
+        plover::map(&drawing.bytes, &mut buffer);
     });
     let inspect = stack_of(|| {
-        plover::inspect(&drawing.table, &sheet);
+        plover::inspect(&drawing.bytes, &sheet);
     });
     Ok([map, inspect])
 }

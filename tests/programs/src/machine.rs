@@ -30,10 +30,25 @@ impl Folder {
         }
     }
 
+    /// A file of the folder, if it is there.
+    pub fn get(&self, name: &str) -> Option<Vec<u8>> {
+        fs::read(self.path.join(name)).ok()
+    }
+
     /// What the program writes: to standard output, and to standard error.
     pub fn streams(&self, program: &str, standard_input: &[u8]) -> (Vec<u8>, Vec<u8>) {
+        self.streams_with(program, &[], standard_input)
+    }
+
+    fn streams_with(
+        &self,
+        program: &str,
+        arguments: &[&str],
+        standard_input: &[u8],
+    ) -> (Vec<u8>, Vec<u8>) {
         let mut child = Command::new(Path::new(RUN))
             .arg(program)
+            .args(arguments)
             .current_dir(&self.path)
             .stdin(Stdio::piped())
             .stdout(Stdio::piped())
@@ -49,7 +64,12 @@ impl Folder {
 
     /// The text that the program prints. It has nothing for standard error.
     pub fn run(&self, program: &str, standard_input: &[u8]) -> String {
-        let (printed, other) = self.streams(program, standard_input);
+        self.run_with(program, &[], standard_input)
+    }
+
+    /// The same of a program that is given arguments.
+    pub fn run_with(&self, program: &str, arguments: &[&str], standard_input: &[u8]) -> String {
+        let (printed, other) = self.streams_with(program, arguments, standard_input);
         assert!(other.is_empty(), "{program} wrote to standard error: {other:?}");
         String::from_utf8(printed).expect("the program prints text")
     }

@@ -1,9 +1,10 @@
-//! Runs the lister, the mapper and the inspector as programs, in a folder of their own, and compares
-//! what they write with what the second implementation says that they write; the mapper's sheet with
-//! that of the library.
+//! Runs the lister, the mapper, the inspector and the reader of equations as programs, in a folder
+//! of their own, and compares what they write with what the second implementation says that they
+//! write; the mapper's sheet with that of the library.
 //!
 //! `programs quick [SEED]` or `programs long [SEED]`; ends with 1 at the first difference.
 
+mod equations;
 mod inspecting;
 mod listing;
 mod machine;
@@ -27,9 +28,10 @@ fn main() {
     let listed = listing::by_hand(&folder) + listing::drawn(&folder, rounds, &mut random);
     let judged = inspecting::by_hand(&folder) + inspecting::drawn(&folder, rounds, &mut random);
     let mapped = mapping::by_hand(&folder) + mapping::drawn(&folder, rounds, &mut random);
+    let compiled = equations::by_hand(&folder) + equations::drawn(&folder, rounds, &mut random);
     println!(
         "programs: {listed} runs of the lister, {judged} of the inspector, {mapped} of the mapper, \
-         no difference (seed {seed})"
+         {compiled} of equations, no difference (seed {seed})"
     );
 }
 

@@ -1,5 +1,6 @@
-//! What the two programs print.
+//! What the programs print.
 
+use crate::equations::{compile, TABLE_ROOM, TEXT_LIMIT};
 use crate::graph::Graph;
 use crate::inspect::inspect;
 use crate::mapping::{depths, Lut};
@@ -25,6 +26,25 @@ pub fn inspector_line(net: &[u8], sheet: &[u8]) -> String {
     match inspect(first(net, TABLE_BYTES), first(sheet, SHEET_BYTES)) {
         Ok(depth) => format!("accepted depth {depth}\n"),
         Err(refused) => refusal_line(refused),
+    }
+}
+
+/// What the equations' program does when this is its standard input and this its first argument:
+/// the text that it prints, and the table that it writes to the file of its second argument.
+pub fn equations_listing(standard_input: &[u8], k: Option<&str>) -> (String, Option<Vec<u8>>) {
+    // One byte more than a text may have, so that a longer one is noticed.
+    let text = first(standard_input, TEXT_LIMIT + 1);
+    match compile(text, digit(k), TABLE_ROOM) {
+        Ok(table) => (listing(&table), Some(table)),
+        Err(refused) => (refusal_line(refused), None),
+    }
+}
+
+/// K, as one decimal digit. A missing argument or any other counts as 0.
+fn digit(argument: Option<&str>) -> u64 {
+    match argument.map(str::as_bytes) {
+        Some([digit @ b'0'..=b'9']) => u64::from(digit - b'0'),
+        _ => 0,
     }
 }
 
@@ -115,6 +135,28 @@ output 6 depth 2
         let by_hand =
             ["output 6 depth 2", "output 0 depth 0", "output 4 depth 1", "output 6 depth 2"];
         assert_eq!(lines, by_hand);
+    }
+
+    #[test]
+    fn equations_are_listed_or_refused() {
+        let mux = b"in a b s;\nf = a*!s + b*s;\nout f;\n";
+        let by_hand = "K 3 inputs 3 gates 4 luts 1 depth 1\n\
+                       lut 6 depth 1 leaves 0 1 2 table 00000000000000CA\n\
+                       output 6 depth 1\n";
+        let (printed, table) = equations_listing(mux, Some("3"));
+        assert_eq!(printed, by_hand);
+        assert_eq!(listing(&table.unwrap()), by_hand);
+        for argument in [None, Some(""), Some("1"), Some("7"), Some("x"), Some("03"), Some("33")] {
+            let refused = ("refused 43 at 0\n".to_string(), None);
+            assert_eq!(equations_listing(mux, argument), refused);
+            let refused = ("refused 41 at 0\n".to_string(), None);
+            assert_eq!(equations_listing(b"", argument), refused);
+        }
+        let mut long = mux.to_vec();
+        long.resize(TEXT_LIMIT, b' ');
+        assert_eq!(equations_listing(&long, Some("3")).0, by_hand);
+        long.resize(2 * TEXT_LIMIT, b' ');
+        assert_eq!(equations_listing(&long, Some("3")).0, "refused 41 at 8192\n");
     }
 
     /// A line's words with every number read, hexadecimal after `table`.

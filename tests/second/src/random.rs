@@ -1,8 +1,9 @@
-//! Numbers, drawings and sheets that are drawn at random, the same ones for the same seed.
+//! Numbers, drawings, sheets and texts that are drawn at random, the same ones for the same seed.
 
 pub mod damage;
 pub mod others;
 pub mod shapes;
+pub mod texts;
 
 /// A generator of numbers (splitmix64).
 #[derive(Clone, Debug)]

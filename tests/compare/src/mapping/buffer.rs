@@ -1,5 +1,6 @@
-//! The sheet buffer that a mapper is lent. It is a part of a longer one, and a random pattern
-//! stands in all of that before the call, so that every byte is seen to stay that should.
+//! The buffer that a function is lent, for a sheet or a table. It is a part of a longer one, and a
+//! random pattern stands in all of that before the call, so that every byte is seen to stay that
+//! should.
 
 use second::random::Random;
 use std::ops::Range;

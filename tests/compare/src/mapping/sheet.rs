@@ -56,13 +56,7 @@ pub fn evidence(mapped: &Mapped, sheet: &Sheet) -> Result<(), String> {
 
 /// Every LUT gives its root the value that the gates give it, and every output has one.
 pub fn values(graph: &Graph, luts: &[Lut], random: &mut Random) -> Result<(), String> {
-    let inputs = graph.table.inputs;
-    let blocks = if inputs <= FEW_INPUTS { blocks_of_all(inputs) } else { BLOCKS };
-    for block in 0..blocks {
-        let words: Vec<u64> = match inputs <= FEW_INPUTS {
-            true => (0..inputs).map(|input| word_of_all(input, block)).collect(),
-            false => (0..inputs).map(|_| random.word()).collect(),
-        };
+    for words in settings(graph.table.inputs, FEW_INPUTS, BLOCKS, random) {
         let (by_gates, by_luts) = (gate_words(graph, &words), lut_words(graph, luts, &words));
         let roots = luts.iter().map(|lut| lut.root);
         for node in roots.chain(graph.table.outputs.iter().copied()) {
@@ -72,6 +66,15 @@ pub fn values(graph: &Graph, luts: &[Lut], random: &mut Random) -> Result<(), St
         }
     }
     Ok(())
+}
+
+/// Words of the inputs, each with 64 settings: with few inputs all settings, else so many words.
+pub fn settings(inputs: usize, few: usize, blocks: usize, random: &mut Random) -> Vec<Vec<u64>> {
+    let every = |block| (0..inputs).map(|input| word_of_all(input, block)).collect();
+    match inputs <= few {
+        true => (0..blocks_of_all(inputs)).map(every).collect(),
+        false => (0..blocks).map(|_| (0..inputs).map(|_| random.word()).collect()).collect(),
+    }
 }
 
 /// How many blocks of 64 all settings are.

@@ -228,6 +228,6 @@ fn inspectors_are_given_both_sheets() {
             false => Err((27, 0)),
         }
     };
-    let agree = Library { map: &with_paths_reversed, inspect: &own_alone };
+    let agree = Library { map: &with_paths_reversed, inspect: &own_alone, ..STAND_IN };
     assert_noticed(run(agree), "exchange: the second's sheet by the library");
 }

@@ -1,0 +1,3 @@
+in a b s;
+f = a*!s + b*s;
+out f;

@@ -1,0 +1,3 @@
+in a b c d;
+f = a*b + c*d;
+out f;

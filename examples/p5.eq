@@ -1,0 +1,3 @@
+in a b c;
+f = a*b*c;
+out f;

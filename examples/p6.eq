@@ -1,0 +1,3 @@
+in a;
+f = a*a;
+out f;

@@ -1,0 +1,3 @@
+in a;
+f = a*f;
+out f;

@@ -1,0 +1,5 @@
+in a;
+f = !h;
+g = !h;
+h = !g;
+out h;

@@ -1,0 +1,3 @@
+in a b;
+f = a*b
+out f;

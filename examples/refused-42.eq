@@ -1,0 +1,3 @@
+in a b;
+f = a*c;
+out f;

@@ -1,0 +1,4 @@
+in set reset;
+q = !(reset + other);
+other = !(set + q);
+out q;
