@@ -11,3 +11,4 @@ pub mod LeftSides
 pub mod RightSides
 pub mod EquationLines
 pub mod WholeTexts
+pub mod One
