@@ -1,6 +1,6 @@
 /* The mapper, the inspector and the reader of equations of Ploverdrift. Link libplover.a for
- * x86-64: lib/libplover.a of a release, or target/staticlib/libplover.a, which `rt staticlib plover`
- * makes. What the functions promise is proved for all bytes (docs/PROMISES.md, plover); that this file
+ * x86-64: lib/libplover.a of a release, or crates/plover/out/libplover.a, which `./make plover` makes.
+ * What the functions promise is proved for all bytes (docs/PROMISES.md, plover); that this file
  * declares them as they are is not.
  *
  * A pointer comes with the number of bytes that it points to. It is never null, even where that
@@ -42,7 +42,7 @@ uint64_t plover_inspect(const uint8_t *table, size_t table_length, const uint8_t
  *   43  K, or the number of inputs, nodes or outputs, is one that no table has, at 0
  *    7  a loop, at its lowest gate
  *    8  a buffer below 4,096 bytes, at 4,096
- * plover_map takes every table that is written. */
+ * plover_map takes every table that is written. The call takes some 95 kB of stack. */
 uint64_t plover_equations(const uint8_t *text, size_t text_length, uint64_t k, uint8_t *table,
                           size_t table_length);
 

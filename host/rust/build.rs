@@ -1,5 +1,5 @@
-//! Links the static library: in a release that of its folder `lib`, else the one that `rt staticlib
-//! plover` makes. PLOVER_FOLDER names another folder that holds a `libplover.a`.
+//! Links the static library: in a release that of its folder `lib`, else the one that `./make plover`
+//! makes. PLOVER_FOLDER names another folder that holds a `libplover.a`.
 
 use std::env;
 use std::path::Path;
@@ -18,6 +18,6 @@ fn at_hand() -> String {
     if Path::new(&released).join("libplover.a").exists() {
         released
     } else {
-        at("target/staticlib")
+        at("crates/plover/out")
     }
 }

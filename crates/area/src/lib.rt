@@ -1,4 +1,6 @@
 // The part of a drawing on which the search for paths works: p and D of a gate, what lies behind the gate outside D, and where paths end.
+#![tactic(auto)]
+
 mod passes;
 
 ghost use Rattle.std.specs.Prelude.{length};

@@ -1,4 +1,6 @@
 // Equations to a gate table: refusals 41 to 43, 7 and 8, or the table's bytes at the front of a lent buffer.
+#![tactic(auto)]
+
 pub mod answers;
 mod tables;
 
@@ -23,7 +25,7 @@ const NAME_PLACES: usize = MOST_TEXT;
 pub const TABLE_ROOM: usize = 4096;
 
 // A text compiled, with the table's length; or refused for its text, a name or its numbers; or the lowest gate on a loop; or a table buffer that is too short.
-#[derive(Drop)]
+#[derive(Clone, Copy)]
 pub enum Reply {
     Compiled(usize),
     Text(usize),

@@ -127,7 +127,9 @@ pub fn store_table(written: &[u8], table: &mut [u8]) -> Reply
             if table.len() < TABLE_ROOM {
                 return Reply::Room;
             }
-            Reply::Compiled(bytes::copy(written, table))
+            let length = written.len();
+            table[..length].copy_from_slice(written);
+            Reply::Compiled(length)
         }
         Taking::LoopAt(gate) => Reply::LoopAt(gate),
         // never given: the table reads whole, and the arrays have the lengths that `take_table` asks

@@ -1,6 +1,6 @@
 -- What a table that reads whole is: as many gates as its head says, each within the paper's numbers, and 1 to 64 outputs that are nodes.
 -- By induction along the reading: each line comes from a field that was ruled sound.
-use Prim.Native.Nat.{ℕ, zero, suc, ◌+◌, ◌-◌, ◌^◌, ◌≤◌, ◌<◌}
+use Prim.Native.Nat.{ℕ, zero, suc, ◌+◌, ◌-◌, ◌≤◌, ◌<◌}
 use mathlib.Core.Path.{◌≡◌, refl, ap, sym, subst, ◌∙◌}
 use mathlib.Core.Bool.{Bool, true, false, cond}
 use mathlib.Core.List.{List, [], ◌∷◌, Memᴰ}

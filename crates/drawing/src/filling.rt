@@ -19,7 +19,7 @@ use storage::lists::{PLACES, put_size};
 use storage::{CutSize, Node, Numbers};
 
 // How a run of fields ended: all sound, with the number that the function says, or refused.
-#[derive(Drop)]
+#[derive(Clone, Copy)]
 pub enum Ended {
     At(usize),
     RefusedFor(Refusal),

@@ -1,4 +1,6 @@
 // The reading of a gate table: its bytes into arrays that the caller lends.
+#![tactic(auto)]
+
 pub mod bytes;
 mod fields;
 mod filling;
@@ -20,7 +22,7 @@ use storage::{CutSize, Numbers};
 
 // The form of a gate table: in how many bytes it writes an id, and G; the tags of its fields; how many bytes a head's value has; and the
 // least and the most nodes.
-#[derive(Drop)]
+#[derive(Clone, Copy)]
 pub struct TableForm {
     pub width: usize,
     pub head: usize,
@@ -32,7 +34,7 @@ pub struct TableForm {
 }
 
 // What a gate table is refused for, with the place that the refusal names.
-#[derive(Drop)]
+#[derive(Clone, Copy)]
 pub enum Refusal {
     Torn(usize),
     Tag(usize),
@@ -43,7 +45,7 @@ pub enum Refusal {
 }
 
 // The ruling on one field.
-#[derive(Drop)]
+#[derive(Clone, Copy)]
 pub enum Verdict {
     Sound,
     Refused(Refusal),
@@ -51,7 +53,7 @@ pub enum Verdict {
 
 // What a gate table's bytes are: a whole table with its numbers, whose roots are its outputs; or refused.
 // TooShort: an array that the caller lent is shorter than the largest table needs, and the bytes were not looked at.
-#[derive(Drop)]
+#[derive(Clone, Copy)]
 pub enum Reading {
     Whole(Numbers),
     Refused(Refusal),

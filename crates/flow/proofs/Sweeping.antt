@@ -1,5 +1,5 @@
 -- A sweep: where it gave no number, nothing changed, and every node that it passed is settled; it passes all nodes.
-use Prim.Native.Nat.{ℕ, zero, suc, ◌+◌, ◌-◌, ◌≤◌, ◌<◌}
+use Prim.Native.Nat.{ℕ, zero, suc, ◌+◌, ◌≤◌, ◌<◌}
 use native.Mathlib.Decide.{ℕ_discrete, dec_lt}
 use native.Mathlib.Omega.{arith}
 use mathlib.Core.Path.{◌≡◌, refl, sym, ap, subst, ◌∙◌}
@@ -176,7 +176,7 @@ module _ {inputs nodes : ℕ} {fanins roles links : List ℕ} {number : ℕ} {r 
     where
       by_end : SweptSo inputs nodes fanins roles number r links → EndFound inputs nodes fanins roles links v.id
       by_end (SweptSo.reached w f found) = subst (λ (u : Node). EndFound inputs nodes fanins roles links u.id) (cc) found
-      by_end (SweptSo.up_to_lem last f _ _ _) = absurd (let z : ◌≡◌ {A = ℕ} 0 1 = cc in omega arith)
+      by_end (SweptSo.up_to last f _ _ _) = absurd (let z : ◌≡◌ {A = ℕ} 0 1 = cc in omega arith)
 
   pub swept_up_to : {m : ℕ} → r ≡ UpTo m → Searched inputs nodes fanins roles links m × (number ≤ m) × (m ≡ number → AllSettled inputs nodes fanins roles links)
   swept_up_to {m} e = by_end s
@@ -184,7 +184,7 @@ module _ {inputs nodes : ℕ} {fanins roles links : List ℕ} {number : ℕ} {r 
       by_end : SweptSo inputs nodes fanins roles number r links →
           Searched inputs nodes fanins roles links m × (number ≤ m) × (m ≡ number → AllSettled inputs nodes fanins roles links)
       by_end (SweptSo.reached w f found) = absurd (let z : ◌≡◌ {A = ℕ} 0 1 = cc in omega arith)
-      by_end (SweptSo.up_to_lem last f searched onward settled) =
+      by_end (SweptSo.up_to last f searched onward settled) =
           let same : last ≡ m = cc in (subst (Searched inputs nodes fanins roles links) same searched, omega arith, λ quiet. settled (omega arith))
 
 -- How a search ended tells what it left.

@@ -1,4 +1,6 @@
 // For a gate: K + 1 disjoint paths from inputs to the fanins of D, or the least cut outside D with the largest cone.
+#![tactic(auto)]
+
 mod augmenting;
 mod cells;
 mod reading;
@@ -17,7 +19,7 @@ use storage::{CutSize, Numbers, columns};
 const COLUMNS: usize = 5;
 
 // What the flow shows: that no cut lies outside D, by K + 1 paths, or the mapper's cut, with the number of its leaves.
-#[derive(Drop)]
+#[derive(Clone, Copy)]
 pub enum Flow {
     Paths,
     Cut(CutSize),

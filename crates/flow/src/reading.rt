@@ -10,7 +10,7 @@ use crate::cells::{EDGE_OF_FLOW, FIRST_NODE, INS, NEXT, NO_LINK, PREV, at, node_
 use storage::Node;
 
 // Where a path starts, if there are so many.
-#[derive(Drop)]
+#[derive(Clone, Copy)]
 pub enum Start {
     At(Node),
     Missing,

@@ -10,7 +10,7 @@ use storage::lists::put_node;
 use storage::{CutSize, Node, Numbers};
 
 // How the rounds end: with K + 1 paths, or full with fewer: as many as the least cut has leaves.
-#[derive(Drop)]
+#[derive(Clone, Copy)]
 pub enum Outcome {
     Many,
     Full(CutSize),

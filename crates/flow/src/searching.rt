@@ -16,14 +16,14 @@ use storage::roles::{END, is_free};
 use storage::{Node, Numbers};
 
 // How a sweep ended: at an end that it reached, or all along, with the last number given.
-#[derive(Drop)]
+#[derive(Clone, Copy)]
 enum Swept {
     Reached(Node),
     UpTo(u16),
 }
 
 // What a search found: an end, or nothing.
-#[derive(Drop)]
+#[derive(Clone, Copy)]
 pub enum Sought {
     End(Node),
     Nothing,

@@ -91,12 +91,12 @@ module _ {s : List ℕ} (k : ℕ) {sys : System} (whole : WellFormed s sys) (nam
       ∙ node_of_definition whole named (definition_at m' r) (Memᴰ.append_right (input_nodes 0 sys.inputs) (begins_defined b')) in
       subst (Behind net (last_of m q)) its (equation_behind (table_for s k sys) (node_at s sys) m q.tree (equation_stands s k sys b) reads.used)
 
-  depends_behind : {m m' : ℕ} {q r : Equation} → Begins (length sys.inputs) sys.equations m q →
+  depends_behind : {m : ℕ} {q : Equation} {m' : ℕ} {r : Equation} → Begins (length sys.inputs) sys.equations m q →
       Begins (length sys.inputs) sys.equations m' r → DependsOn s sys q r → Behind net (last_of m q) (last_of m' r)
   depends_behind b b' (DependsOn.reads member reads) = reads_behind b b' reads
-  depends_behind b b' (DependsOn.further d member reads) =
-      let (start, middle) = begins_somewhere (length sys.inputs) (depends_member d) in
-      behind_on (depends_behind b middle d) (behind_walked (reads_behind middle b' reads))
+  depends_behind {m = m} {q = q} {m' = m'} b b' (DependsOn.further {r = r} {z = z} d member reads) =
+      let middle = begins_somewhere (length sys.inputs) (depends_member d) in
+      behind_on (depends_behind {m' = middle.0} b middle.1 d) (behind_walked (reads_behind middle.1 b' reads))
 
   last_gate : {m : ℕ} {q : Equation} → Begins (length sys.inputs) sys.equations m q → Gate net (last_of m q)
   unfolding net_of

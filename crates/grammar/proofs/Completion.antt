@@ -136,7 +136,7 @@ left_completed w true keyword = then 97 (rw (lt-ltb (length w) 16 (omega (arith,
 left_completed w false plain = plain_left w plain
 
 -- `in a;out a;`
-word_in_completed : Completed State.word_in
+word_in_completed : Completed State.read_in
 unfolding move is_blank
 word_in_completed = then 32 refl ins_first
 
@@ -148,7 +148,7 @@ pub completed : (q : State) → (bs : List ℕ) × Completes q bs
 unfolding move is_blank
 completed State.before = then 105 refl letter_i_completed
 completed State.letter_i = letter_i_completed
-completed State.word_in = word_in_completed
+completed State.read_in = word_in_completed
 completed (State.first Which.ins) = ins_first
 completed (State.first Which.outs) = outs_first
 completed (State.listed x w) = listed_completed x w (is_keyword w) refl

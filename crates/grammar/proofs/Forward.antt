@@ -114,11 +114,11 @@ module _ {s : List ℕ} where
   equations_run (Equations.more equates rest) = run_then (equation_runs equates) (equations_run rest)
 
   pub names_run : {x : Which} {q : State} {i j : ℕ} {places : List ℕ} → Leads s x q → Names s i j places → Reached s (Place.line x) q i j
-  names_run {x} leads (Names.one {i = i} {a = a} gap name) = reached_behind (leads.2 i a gap) (run_name leads.1 name)
-  names_run {x} leads (Names.more {i = i} {a = a} gap name rest) =
+  names_run {x = x} {q = q} leads (Names.one {i = i} {a = a} gap name) = reached_behind (leads.2 i a gap) (run_name leads.1 name)
+  names_run {x = x} {q = q} leads (Names.more {i = i} {a = a} gap name rest) =
       let first = run_name leads.1 name in
       reached_behind (leads.2 i a gap) (reached_behind first.run
-      (names_run (State.next x, Due.next, λ k m between-names. run_gap_ended first.ended between-names) rest))
+      (names_run {q = first.state} (State.next x, Due.next, λ k m between-names. run_gap_ended first.ended between-names) rest))
 
   -- a name's line but for the keyword and `;`
   pub line_runs : {x : Which} {q : State} {i a j : ℕ} {places : List ℕ} → Leads s x q → Names s i a places → Blanks s a j → Reached s (Place.line x) q i j

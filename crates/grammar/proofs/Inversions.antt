@@ -137,11 +137,11 @@ before_is b q no_blank moves =
     let seen : cond (eqb b 105) (Move.to State.letter_i) Move.stuck ≡ Move.to q = rw no_blank at moves in
     last (eqb b 105) seen (λ e is. (eqb-true b 105 e, is))
 
-pub letter_i_is : (b : ℕ) (q : State) → move State.letter_i b ≡ Move.to q → (b ≡ 110) × (q ≡ State.word_in)
+pub letter_i_is : (b : ℕ) (q : State) → move State.letter_i b ≡ Move.to q → (b ≡ 110) × (q ≡ State.read_in)
 unfolding move
 letter_i_is b q moves = last (eqb b 110) moves (λ e is. (eqb-true b 110 e, is))
 
-pub word_in_is : (b : ℕ) (q : State) → move State.word_in b ≡ Move.to q → (is_blank b ≡ true) × (q ≡ State.first Which.ins)
+pub word_in_is : (b : ℕ) (q : State) → move State.read_in b ≡ Move.to q → (is_blank b ≡ true) × (q ≡ State.first Which.ins)
 unfolding move
 word_in_is b q moves = last (is_blank b) moves (λ e is. (e, is))
 

@@ -185,7 +185,7 @@ onward_blank Place.equation b e = rw e
 pub ended_blank : {c : Place} {q : State} (b : ℕ) → Ended c q → is_blank b ≡ true → move q b ≡ Move.to (behind_name c)
 ended_blank {c} b ended e = ended_move b ended (blank_no_word_byte b e) ∙ onward_blank c b e
 
-pub in_blank : (b : ℕ) → is_blank b ≡ true → move State.word_in b ≡ Move.to (State.first Which.ins)
+pub in_blank : (b : ℕ) → is_blank b ≡ true → move State.read_in b ≡ Move.to (State.first Which.ins)
 unfolding move
 in_blank b e = rw e
 
@@ -229,7 +229,7 @@ module _ {s : List ℕ} where
   pub run_gap_ended : {c : Place} {q : State} {i j : ℕ} → Ended c q → Gap s i j → Runs s q i (behind_name c) j
   run_gap_ended {c} ended gap = run_gap (λ b e. ended_blank b ended e) (waits_behind c) gap
 
-  pub run_gap_in : {i j : ℕ} → Gap s i j → Runs s State.word_in i (State.first Which.ins) j
+  pub run_gap_in : {i j : ℕ} → Gap s i j → Runs s State.read_in i (State.first Which.ins) j
   run_gap_in gap = run_gap in_blank Waits.first gap
 
   pub run_gap_out : {i j : ℕ} → Gap s i j → Runs s (State.left word_out) i (State.first Which.outs) j
@@ -278,7 +278,7 @@ module _ {s : List ℕ} where
       record { state = then.state; ended = then.ended; run = run_then first.run then.run }
 
   -- keywords where they are due
-  pub run_in : {i : ℕ} → between s i (i + 2) ≡ word_in → Runs s State.before i State.word_in (i + 2)
+  pub run_in : {i : ℕ} → between s i (i + 2) ≡ word_in → Runs s State.before i State.read_in (i + 2)
   unfolding move is_blank
   run_in {i} e =
       let at_i : byte_at s i ≡ 105 = ap (byte_at s) (omega arith) ∙ between_at s i (i + 2) 0 word_in e (omega arith) in

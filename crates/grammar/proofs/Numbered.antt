@@ -38,6 +38,7 @@ numbered_split {n} {v} {g} (h ∷ l) {m} {a} size (Numbered.there at) =
 
 numbered_one : {n v : ℕ} {g h : GateLine} → Numbered n (h ∷ []) v g → (v ≡ n) × (g ≡ h)
 numbered_one Numbered.here = (refl, refl)
+numbered_one {n = n} {v = v} {g = g} {h = h} (Numbered.there x) = elim x [ ]
 
 module _ (node : ℕ → ℕ) where
   -- u is a number from n on and below v, or the node of a name

@@ -65,7 +65,7 @@ run_steps s f i j ordered within each = steps s f (j - i) i j (omega arith) with
 abbrev pub is_done : State → Bool
 is_done State.before = false
 is_done State.letter_i = false
-is_done State.word_in = false
+is_done State.read_in = false
 is_done (State.first x) = false
 is_done (State.listed x w) = false
 is_done (State.next x) = false
@@ -83,7 +83,7 @@ not_done q other is = true≢false (ap is_done (sym is) ∙ other)
 pub done_or_not : (q : State) → (q ≡ State.done) ⊎ (is_done q ≡ false)
 done_or_not State.before = inr refl
 done_or_not State.letter_i = inr refl
-done_or_not State.word_in = inr refl
+done_or_not State.read_in = inr refl
 done_or_not (State.first x) = inr refl
 done_or_not (State.listed x w) = inr refl
 done_or_not (State.next x) = inr refl

@@ -23,7 +23,7 @@ use Rattle.grammar.specs.paper.Text.{word_at}
 use Rattle.grammar.specs.paper.Grammar.{Equation, System, WellFormed}
 use Rattle.grammar.specs.paper.Names.{names_in, used_by, definitions, uses, WellNamed}
 use Rattle.grammar.specs.paper.Gates.{all_gates, equation_gates, Definition, input_nodes, equation_nodes, nodes_of, node_among, node_at, table_for}
-use Rattle.grammar.specs.paper.Meaning.{value_of, Solves}
+use Rattle.grammar.specs.paper.Meaning.{Solves}
 use Rattle.grammar.specs.paper.Faithful.{Faithful}
 use Rattle.grammar.proofs.Places.{inputs_some}
 use Rattle.grammar.proofs.Sizes.{Begins, last_of, definition_at, begins_somewhere, begins_member, begins_defined, defined_begins, input_at}

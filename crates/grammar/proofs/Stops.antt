@@ -110,7 +110,7 @@ pub end_stuck : (q : State) → move q 0 ≡ Move.stuck
 unfolding move in_word behind_listed behind_left behind_operand unless_keyword is_blank is_letter is_digit is_word_byte
 end_stuck State.before = refl
 end_stuck State.letter_i = refl
-end_stuck State.word_in = refl
+end_stuck State.read_in = refl
 end_stuck (State.first x) = refl
 end_stuck (State.listed x w) = same_both (is_keyword w) refl
 end_stuck (State.next x) = refl

@@ -237,8 +237,8 @@ module _ (s : List ℕ) (end : ℕ) where
   inputs_read i inside here run =
       let second = first_move run (not_done State.letter_i refl) in
       let (n-here, is) = letter_i_is (byte_at s (suc i)) second.next second.moves in
-      let word-run : Runs s State.word_in (suc (suc i)) State.done end = rw is at second.rest in
-      let third = first_move word-run (not_done State.word_in refl) in
+      let word-run : Runs s State.read_in (suc (suc i)) State.done end = rw is at second.rest in
+      let third = first_move word-run (not_done State.read_in refl) in
       let (blank, is-first) = word_in_is (byte_at s (suc (suc i))) third.next third.moves in
       let names = names_read Which.ins (suc (suc i)) blank (rw is-first at third.rest) in
       let behind = skip {i = suc names.follows.stop} names.follows.rest Waits.between_lines (not_done State.between_lines refl) in

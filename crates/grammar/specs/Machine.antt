@@ -30,7 +30,7 @@ pub data State : Type 0 where
   -- before `in`, and within it
   before : State
   letter_i : State
-  word_in : State
+  read_in : State
   -- in a line of names: no name yet, in a name, behind a name and a blank
   first : Which → State
   listed : Which → List ℕ → State
@@ -86,8 +86,8 @@ unless_keyword w m = cond (is_keyword w) Move.stuck m
 -- what byte b does
 unfoldable pub move : State → ℕ → Move
 move State.before b = cond (is_blank b) (Move.to State.before) (cond (eqb b 105) (Move.to State.letter_i) Move.stuck)
-move State.letter_i b = cond (eqb b 110) (Move.to State.word_in) Move.stuck
-move State.word_in b = cond (is_blank b) (Move.to (State.first Which.ins)) Move.stuck
+move State.letter_i b = cond (eqb b 110) (Move.to State.read_in) Move.stuck
+move State.read_in b = cond (is_blank b) (Move.to (State.first Which.ins)) Move.stuck
 move (State.first x) b =
     cond (is_blank b) (Move.to (State.first x)) (cond (is_letter b) (Move.to (State.listed x (b ∷ []))) Move.stuck)
 move (State.listed x w) b = in_word w b (State.listed x) (unless_keyword w (behind_listed x b))

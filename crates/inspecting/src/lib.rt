@@ -1,4 +1,6 @@
 // The inspector: a gate table and a sheet by anyone, accepted or refused.
+#![tactic(auto)]
+
 pub mod answers;
 
 ghost use Rattle.std.specs.Prelude.{ℕ, ◌≤◌, length, take, ◌≡◌, List};
@@ -23,7 +25,7 @@ use weighing::whole::{WholeJudged, judge_whole};
 
 // What the inspector says: the depth of a sheet that keeps all rules; the table's refusal; the lowest gate on a loop; the fault in the
 // sheet's shape; or the first rule that is broken, with its gate. Depth names no gate.
-#[derive(Drop)]
+#[derive(Clone, Copy)]
 pub enum Inspection {
     Accepted(Label),
     Refused(Refusal),

@@ -1,4 +1,6 @@
 // Pass two of the inspector: rules 25, 26 and 27 at each gate, by the labels, cuts and paths that a sheet claims.
+#![tactic(auto)]
+
 mod paths;
 mod rules;
 
@@ -12,7 +14,7 @@ use storage::marks::clear;
 use storage::{Node, Numbers};
 
 // The first rule that is not kept, with its gate.
-#[derive(Drop)]
+#[derive(Clone, Copy)]
 pub enum Judged {
     Kept,
     Cut(Node),

@@ -1,6 +1,6 @@
 -- A sheet that keeps every rule is right: its lines show the labels, its LUTs are a cover that computes what the gates compute, and no cover is
 -- shallower.
-use Prim.Native.Nat.{ℕ, ◌+◌, ◌-◌, ◌≤◌, ◌<◌}
+use Prim.Native.Nat.{ℕ, ◌-◌, ◌≤◌, ◌<◌}
 use native.Mathlib.Omega.{arith}
 use mathlib.Core.Path.{◌≡◌, refl, sym, ◌∙◌, subst}
 use mathlib.Core.Bool.{true}

@@ -7,7 +7,6 @@ use Rattle.drawing.specs.paper.Table.{Table}
 use Rattle.sheet.specs.paper.Sheet.{Sheet}
 use Rattle.wording.specs.paper.Text.{listing_of}
 use Rattle.wording.specs.paper.Puts.{Wrote}
-use Rattle.wording.specs.paper.Rooms.{room}
 use Rattle.keeping.specs.paper.Mappers.{SettledSheet}
 use Rattle.keeping.specs.paper.Printed.{mapping_of}
 use Rattle.settling.specs.Arrays.{TakenAsked}

@@ -1,4 +1,6 @@
 // The lister's text, from a gate table's bytes to a lent buffer.
+#![tactic(auto)]
+
 ghost use Rattle.wording.specs.paper.Filled.{Front};
 ghost use Rattle.listing.specs.paper.Lists.{Lists};
 ghost use Rattle.listing.specs.Lists.{ListAsked, TakenListed};

@@ -1,20 +1,28 @@
 // Writes the mapping sheet of the gate table on standard input (its first 4,096 bytes) to standard output; or nothing there, and to standard error
 // what the table is refused for.
+#![tactic(auto)]
+
 use printing::LINE_ROOM;
 use sheet::limits::SHEET_ROOM;
+use std::io;
 
-fn show(table: &[u8]) {
+// "the first 4,096 bytes of standard input"
+const TABLE_ROOM: usize = 4096;
+
+// A sheet or a line: one of the two is empty, and nothing is written for it.
+fn show(output: &impl Print, errors: &impl Print, table: &[u8]) -> io::Result<()> {
     let mut sheet = [0u8; SHEET_ROOM];
     let mut text = [0u8; LINE_ROOM];
     let lengths = printing::draw_up(table, &mut sheet, &mut text);
     let length = lengths.sheet;
     let line = lengths.line;
-    io::write_all(1, &sheet[..length]);
-    io::write_all(2, &text[..line]);
+    output.write_all(&sheet[..length])?;
+    errors.write_all(&text[..line])
 }
 
-fn main() {
-    let mut buffer = io::buffer();
-    let n = io::read_full(0, &mut buffer);
-    show(&buffer[..n]);
+// A read that fails ends the table, as the input's end does.
+fn main(rt: HostRuntime) -> io::Result<()> {
+    let mut buffer = [0u8; TABLE_ROOM];
+    let (n, _) = reading::fill(&mut rt.stdin(), &mut buffer);
+    show(&rt, &rt.stderr(), &buffer[..n])
 }

@@ -1,4 +1,6 @@
 // The mapper: a gate table's bytes in, the mapping sheet's bytes out.
+#![tactic(auto)]
+
 pub mod answers;
 mod lines;
 mod luts;
@@ -19,7 +21,7 @@ use storage::{Node, Numbers};
 use taking::{Taking, take_table};
 
 // A table mapped, with the sheet's length; or refused; or the lowest gate on a loop; or a sheet buffer that is too short.
-#[derive(Drop)]
+#[derive(Clone, Copy)]
 pub enum Reply {
     Mapped(usize),
     Refused(Refusal),

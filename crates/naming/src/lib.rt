@@ -1,5 +1,7 @@
 // The names of a text that was read, from the arrays that its reader left: the earliest place where one is wrong, and the node of each.
 // `gates` has three places a gate: its function table and two operands; `names` two a name: its place and its node, definitions first, then outputs.
+#![tactic(auto)]
+
 pub mod arrays;
 mod checks;
 pub mod nodes;
@@ -13,7 +15,7 @@ ghost use Rattle.naming.specs.Wrongs.{Named};
 use crate::checks::{earlier, first_again, first_undefined_operand, first_undefined_output};
 
 // "name used but nowhere defined, or defined again": the earliest such place.
-#[derive(Drop)]
+#[derive(Clone, Copy)]
 pub enum Naming {
     Right,
     Wrong(usize),

@@ -1,4 +1,6 @@
 // Stage one of the mapper: a drawing's labels, the mapper's cuts, the LUTs that its outputs need and their tables, all in lent arrays.
+#![tactic(auto)]
+
 ghost use Rattle.packing.specs.Tables.{TableAsked, TableAnswered, TablesAsked, TablesMade, made_of, MapAsked, MappingMade};
 
 use covering::cones::cone_table;
@@ -9,7 +11,7 @@ use storage::lists::{PLACES, cut_size};
 use storage::{Label, Node, Numbers};
 
 // How many LUTs there are, and how deep they are.
-#[derive(Drop)]
+#[derive(Clone, Copy)]
 pub struct Mapping {
     pub luts: usize,
     pub depth: Label,

@@ -1,4 +1,6 @@
 // The library for programs in C and in Rust: the mapper, the inspector and the reader of equations, each with its reply as a word.
+#![tactic(auto)]
+
 ghost use Rattle.std.specs.Prelude.{◌≡◌, ◌<◌};
 ghost use Rattle.plover.specs.paper.Words.{half, word_of, MapsAs, InspectsAs, CompilesAs};
 

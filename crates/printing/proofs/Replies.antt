@@ -2,10 +2,9 @@
 use Prim.Native.Nat.{ℕ, ◌≤◌, ◌<◌}
 use native.Mathlib.Omega.{arith}
 use mathlib.Core.Path.{◌≡◌, refl, ap, sym, subst}
-use mathlib.Core.List.{List, [], ◌∷◌}
+use mathlib.Core.List.{List}
 use lib.ListN.{length, drop, length-append}
-use types.Run.{OneOf, miss}
-use denote.Enum.Declared.{tag_of}
+use Rattle.storage.specs.declared.Label.{Label as DepthLabel}
 use Rattle.sheet.specs.paper.Encoding.{narrow, encode}
 use Rattle.wording.specs.paper.Text.{refused_line}
 use Rattle.wording.specs.paper.Puts.{Wrote}
@@ -16,22 +15,17 @@ use Rattle.mapping.specs.declared.Reply.{Reply}
 use Rattle.mapping.specs.declared.Reply.TheVariants as mapped
 use Rattle.mapping.specs.paper.Maps as mapper
 use Rattle.mapping.specs.paper.Maps.{Maps}
-use Rattle.mapping.specs.contracts.Reply as mapper-kinds
 use Rattle.inspecting.specs.declared.Inspection.{Inspection}
 use Rattle.inspecting.specs.declared.Inspection.TheVariants.{Accepted, Refused, LoopAt, Shape, Cut, Label, Paths, Cover, Function, Depth}
 use Rattle.inspecting.specs.paper.Inspecting as inspector
 use Rattle.inspecting.specs.paper.Inspecting.{Inspects}
-use Rattle.inspecting.specs.contracts.Inspection as inspector-kinds
 use Rattle.printing.specs.paper.Reports.{line_of, Reports}
 use Rattle.printing.specs.paper.Draws.{sheet_of, refusal_of, Draws}
 
--- The inspector's: the tags of all its replies but the first, in the enum's order
+-- The inspector's: each reply but the first
 
-abbrev rulings : List ℕ
-rulings = 1 ∷ 2 ∷ 3 ∷ 4 ∷ 5 ∷ 6 ∷ 7 ∷ 8 ∷ 9 ∷ []
-
-refused_line_lem : (r : Inspection) → OneOf rulings (tag_of inspector-kinds.the_type r) → refused_line (inspector.number r) (inspector.place r) ≡ line_of r
-refused_line_lem (Accepted depth) one = absurd (miss rulings 0 tt one)
+refused_line_lem : (r : Inspection) → ((depth : DepthLabel) → r ≡ Accepted depth → ⊥) → refused_line (inspector.number r) (inspector.place r) ≡ line_of r
+refused_line_lem (Accepted depth) one = absurd (one depth refl)
 refused_line_lem (Refused r) one = refl
 refused_line_lem (LoopAt gate) one = refl
 refused_line_lem (Shape fault) one = refl
@@ -46,7 +40,7 @@ module _ {before : List ℕ} {r : ℕ} {after : List ℕ} where
   pub reply_wrote : {reply x : Inspection} → reply ≡ x → Wrote before (line_of x) r after → Wrote before (line_of reply) r after
   reply_wrote is wrote = subst (λ (y : Inspection). Wrote before (line_of y) r after) (sym is) wrote
 
-  pub ruling_wrote : (reply : Inspection) {a b : ℕ} → OneOf rulings (tag_of inspector-kinds.the_type reply) → a ≡ inspector.number reply →
+  pub ruling_wrote : (reply : Inspection) {a b : ℕ} → ((depth : DepthLabel) → reply ≡ Accepted depth → ⊥) → a ≡ inspector.number reply →
       b ≡ inspector.place reply → Wrote before (refused_line a b) r after → Wrote before (line_of reply) r after
   ruling_wrote reply one number_is place_is wrote =
       subst (λ (l : List ℕ). Wrote before l r after) (refused_line_lem reply one) (refused_as number_is place_is wrote)
@@ -57,22 +51,19 @@ module _ {before : List ℕ} {r : ℕ} {after : List ℕ} where
 
 -- The mapper's, likewise
 
-abbrev refusals : List ℕ
-refusals = 1 ∷ 2 ∷ 3 ∷ []
-
-refusal_line : (r : Reply) → OneOf refusals (tag_of mapper-kinds.the_type r) → refused_line (mapper.number r) (mapper.place r) ≡ refusal_of r
-refusal_line (mapped.Mapped n) one = absurd (miss refusals 0 tt one)
+refusal_line : (r : Reply) → ((n : ℕ) → r ≡ mapped.Mapped n → ⊥) → refused_line (mapper.number r) (mapper.place r) ≡ refusal_of r
+refusal_line (mapped.Mapped n) one = absurd (one n refl)
 refusal_line (mapped.Refused r) one = refl
 refusal_line (mapped.LoopAt gate) one = refl
 refusal_line mapped.Room one = refl
 
-pub no_sheet : (r : Reply) → OneOf refusals (tag_of mapper-kinds.the_type r) → 0 ≡ sheet_of r
-no_sheet (mapped.Mapped n) one = absurd (miss refusals 0 tt one)
+pub no_sheet : (r : Reply) → ((n : ℕ) → r ≡ mapped.Mapped n → ⊥) → 0 ≡ sheet_of r
+no_sheet (mapped.Mapped n) one = absurd (one n refl)
 no_sheet (mapped.Refused r) one = refl
 no_sheet (mapped.LoopAt gate) one = refl
 no_sheet mapped.Room one = refl
 
-pub refusal_wrote : (reply : Reply) {a b : ℕ} {before : List ℕ} {r : ℕ} {after : List ℕ} → OneOf refusals (tag_of mapper-kinds.the_type reply) →
+pub refusal_wrote : (reply : Reply) {a b : ℕ} {before : List ℕ} {r : ℕ} {after : List ℕ} → ((n : ℕ) → reply ≡ mapped.Mapped n → ⊥) →
     a ≡ mapper.number reply → b ≡ mapper.place reply → Wrote before (refused_line a b) r after → Wrote before (refusal_of reply) r after
 refusal_wrote reply {before = before} {r} {after} one number_is place_is wrote =
     subst (λ (l : List ℕ). Wrote before l r after) (refusal_line reply one) (refused_as number_is place_is wrote)

@@ -1,4 +1,6 @@
 // What the inspector's program and the mapper's write, from bytes to lent buffers.
+#![tactic(auto)]
+
 ghost use Rattle.std.specs.Prelude.{◌≤◌, ◌≡◌, length};
 ghost use Rattle.wording.specs.paper.Puts.{Wrote};
 ghost use Rattle.wording.specs.paper.Rooms.{line_room};
@@ -16,7 +18,7 @@ use wording::{write_accepted, write_refused};
 pub const LINE_ROOM: usize = 53;
 
 // How many bytes the mapper's program has to write: of the sheet's buffer to standard output, of the text's to standard error.
-#[derive(Drop)]
+#[derive(Clone, Copy)]
 pub struct Lengths {
     pub sheet: usize,
     pub line: usize,

@@ -59,7 +59,7 @@ module _ {s : List ℕ} {at : ℕ} (some : Bool) where
       let (named, here) = and_both some (eqb (byte_at s p) semicolon) ends in
       let here' = eqb-true (byte_at s p) semicolon here in
       record {
-        behind_name_lem = named;
+        behind_name = named;
         stop = p;
         blanks = skipped.blanks;
         end = record { here = here'; blanks = subst (λ (n : ℕ). Blanks s n next) (add-one p) behind.blanks };

@@ -121,7 +121,7 @@ module _ {s : List ℕ} {outs : Bool} {at listed : ℕ} {names₀ : List ℕ} wh
         places = sofar.places;
         names_end = end;
         stop = last.stop;
-        names_here = listed_names sofar.listing (omega (arith, sofar.counted, ltb-true listed count last.behind_name_lem));
+        names_here = listed_names sofar.listing (omega (arith, sofar.counted, ltb-true listed count last.behind_name));
         blanks = last.blanks;
         end = last.end;
         counted = sofar.counted;
@@ -132,8 +132,8 @@ module _ {s : List ℕ} {outs : Bool} {at listed : ℕ} {names₀ : List ℕ} wh
         run =
             run_then sofar.run
             (end_run (which_of outs)
-            (sofar.takes ∙ ap (λ (t : Bool). behind_word (which_of outs) t (byte_at s end)) last.behind_name_lem)
-            (subst (λ (t : Bool). LineEnd s end t next) last.behind_name_lem last));
+            (sofar.takes ∙ ap (λ (t : Bool). behind_word (which_of outs) t (byte_at s end)) last.behind_name)
+            (subst (λ (t : Bool). LineEnd s end t next) last.behind_name last));
       }
 
   pub reading_stops : {names : List ℕ} {end count p : ℕ} → Reading s outs at listed names₀ names end count → NoEntry s end (ltb listed count) p →

@@ -1,7 +1,7 @@
 -- The promise of `read_text` allows one answer and one content of each array: `scans_one`. A text says one thing at most, and where it says none its
 -- longest beginning ends at one place.
 use Prim.Native.Nat.{ℕ}
-use mathlib.Core.Path.{◌≡◌, refl, sym, ap, ◌∙◌}
+use mathlib.Core.Path.{◌≡◌, sym, ap, ◌∙◌}
 use mathlib.Core.List.{List}
 use lib.Seq.{sets}
 use Rattle.grammar.specs.paper.Grammar.{System}

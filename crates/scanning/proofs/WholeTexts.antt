@@ -108,7 +108,7 @@ inputs_read {names₀ = names₀} gates₀ gates names (scan.Stopped p) line sto
       names_size = stopped.names_size ∙ ap length line.stored ∙ length-sets names₀ 0 (pairs_from false 0 line.places);
     }
 
-pub inputs_stop : {s names₀ names : List ℕ} {at p : ℕ} (gates : List ℕ) → LineStopped s false at names₀ names p → HaltsFrom s State.word_in at gates names₀ gates names p
+pub inputs_stop : {s names₀ names : List ℕ} {at p : ℕ} (gates : List ℕ) → LineStopped s false at names₀ names p → HaltsFrom s State.read_in at gates names₀ gates names p
 unfolding which_of start_of
 inputs_stop gates stopped = record { halts = stopped.halts; gates_size = refl; names_size = stopped.size }
 
@@ -170,14 +170,14 @@ module _ {s : List ℕ} {start : ℕ} (skipped : Skipped s 0 start) where
       pub in_within : start + 1 + 1 ≤ length s
       in_within = omega (arith, sign_within s (start + 1) 110 (omega arith) second)
 
-      unfolding_n : move State.letter_i 110 ≡ Move.to State.word_in
+      unfolding_n : move State.letter_i 110 ≡ Move.to State.read_in
       unfolding move
       unfolding_n = refl
 
-      to_in : Runs s State.before 0 State.word_in (start + 1 + 1)
+      to_in : Runs s State.before 0 State.read_in (start + 1 + 1)
       to_in =
           run_then to_i
-          (subst (Runs s State.letter_i (start + 1) State.word_in) (sym (add-one (start + 1)))
+          (subst (Runs s State.letter_i (start + 1) State.read_in) (sym (add-one (start + 1)))
           (run_one (sign_within s (start + 1) 110 (omega arith) second) (ap (move State.letter_i) second ∙ unfolding_n)))
 
       in_here : between s start (start + 1 + 1) ≡ word_in
@@ -189,7 +189,7 @@ module _ {s : List ℕ} {start : ℕ} (skipped : Skipped s 0 start) where
           (ap (between s start) (add-one start) ∙ between_grows s start start (omega arith) (omega arith) ∙ ap₂ (λ (l : List ℕ) (b : ℕ). l ++ (b ∷ [])) (between_none s start) letter)
           second
 
-      pub whole_stops : {gates₀ names₀ gates names : List ℕ} {p : ℕ} → HaltsFrom s State.word_in (start + 1 + 1) gates₀ names₀ gates names p →
+      pub whole_stops : {gates₀ names₀ gates names : List ℕ} {p : ℕ} → HaltsFrom s State.read_in (start + 1 + 1) gates₀ names₀ gates names p →
           HaltsFrom s State.before 0 gates₀ names₀ gates names p
       whole_stops stopped =
           record { halts = halts_then to_in stopped.halts; gates_size = stopped.gates_size; names_size = stopped.names_size }

@@ -17,7 +17,7 @@ which_of false = Which.ins
 
 -- the state behind its keyword
 unfoldable pub start_of : Which → State
-start_of Which.ins = State.word_in
+start_of Which.ins = State.read_in
 start_of Which.outs = State.left word_out
 
 -- what a byte does there, or behind a name of the line
@@ -33,7 +33,7 @@ module _ (s : List ℕ) where
 
   -- `;`, behind a name of the line
   pub record LineEnd (at : ℕ) (some : Bool) (next : ℕ) : Type 0 where
-    pub behind_name_lem : some ≡ true
+    pub behind_name : some ≡ true
     pub stop : ℕ
     pub blanks : Blanks s at stop
     pub end : Sign s semicolon stop next

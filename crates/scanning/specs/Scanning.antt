@@ -75,7 +75,7 @@ pub record InputsRead (s : List ℕ) (at : ℕ) (gates₀ names₀ gates names :
 
 abbrev pub InputsOf : (s : List ℕ) (at : ℕ) (gates₀ names₀ gates names : List ℕ) → Scan → Type 0
 InputsOf s at gates₀ names₀ gates names (scan.Read c) = InputsRead s at gates₀ names₀ gates names c
-InputsOf s at gates₀ names₀ gates names (scan.Stopped p) = HaltsFrom s State.word_in at gates₀ names₀ gates names p
+InputsOf s at gates₀ names₀ gates names (scan.Stopped p) = HaltsFrom s State.read_in at gates₀ names₀ gates names p
 
 -- A text in the grammar, with what it says in the arrays.
 pub record TextRead (s gates₀ names₀ gates names : List ℕ) (c : Counts) : Type 0 where

@@ -14,20 +14,20 @@ use spelling::{byte_at, skip_blanks};
 const PASS: u16 = 2;
 
 // Where the next line begins, and how many gates there are now.
-#[derive(Drop)]
+#[derive(Clone, Copy)]
 pub struct Moved {
     pub next: usize,
     pub made: usize,
 }
 
-#[derive(Drop)]
+#[derive(Clone, Copy)]
 pub enum Right {
     Read(Moved),
     Stopped(usize),
 }
 
 // An equation was read; or `out`, with the place behind it; or nothing that can stand there.
-#[derive(Drop)]
+#[derive(Clone, Copy)]
 pub enum Turn {
     Equation(Moved),
     Out(usize),
@@ -35,14 +35,14 @@ pub enum Turn {
 }
 
 // Where `out` ends, and how many gates and names there are.
-#[derive(Drop)]
+#[derive(Clone, Copy)]
 pub struct Stage {
     pub next: usize,
     pub made: usize,
     pub listed: usize,
 }
 
-#[derive(Drop)]
+#[derive(Clone, Copy)]
 pub enum Ended {
     Out(Stage),
     Stopped(usize),

@@ -19,7 +19,7 @@ const MOST_BRACKETS: usize = 32;
 
 // What was read: the place behind it, the operand that it is, and how many gates there are now. An operand is the place of a name, or 8,192 and the
 // number of a gate.
-#[derive(Drop)]
+#[derive(Clone, Copy)]
 pub struct Piece {
     pub next: usize,
     pub operand: u16,
@@ -27,7 +27,7 @@ pub struct Piece {
 }
 
 // An expression, or the place of the first byte that cannot stand there.
-#[derive(Drop)]
+#[derive(Clone, Copy)]
 pub enum Part {
     Read(Piece),
     Stopped(usize),

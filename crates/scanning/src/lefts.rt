@@ -10,7 +10,7 @@ const EQUALS: u8 = 61;
 const OUT_SIZE: usize = 3;
 
 // The place of an expression behind `=`; the place behind `out`; or nothing that can stand there.
-#[derive(Drop)]
+#[derive(Clone, Copy)]
 pub enum Left {
     Equation(usize),
     Out(usize),

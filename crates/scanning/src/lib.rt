@@ -1,4 +1,6 @@
 // Reads a text of equations whole: the line of inputs, the equations, the line of outputs. What it says is kept in two lent arrays.
+#![tactic(auto)]
+
 mod equations;
 mod expressions;
 mod gates;
@@ -21,7 +23,7 @@ const LETTER_I: u8 = 105;
 const LETTER_N: u8 = 110;
 
 // How much of each was read.
-#[derive(Drop)]
+#[derive(Clone, Copy)]
 pub struct Counts {
     pub inputs: usize,
     pub definitions: usize,
@@ -30,7 +32,7 @@ pub struct Counts {
 }
 
 // A text in the grammar; or the end of its longest beginning.
-#[derive(Drop)]
+#[derive(Clone, Copy)]
 pub enum Scan {
     Read(Counts),
     Stopped(usize),

@@ -9,14 +9,14 @@ use spelling::{Word, byte_at, read_name, skip_blanks};
 pub const SEMICOLON: u8 = 59;
 
 // A name's first byte, and the place behind it.
-#[derive(Drop)]
+#[derive(Clone, Copy)]
 pub struct Span {
     pub from: usize,
     pub end: usize,
 }
 
 // What stands behind a keyword or a name: a name, the line's end with the place behind it, or nothing that can stand there.
-#[derive(Drop)]
+#[derive(Clone, Copy)]
 pub enum Entry {
     Name(Span),
     End(usize),
@@ -24,13 +24,13 @@ pub enum Entry {
 }
 
 // Where the next line begins, and how many names are kept.
-#[derive(Drop)]
+#[derive(Clone, Copy)]
 pub struct Reached {
     pub next: usize,
     pub listed: usize,
 }
 
-#[derive(Drop)]
+#[derive(Clone, Copy)]
 pub enum Line {
     Read(Reached),
     Stopped(usize),

@@ -12,7 +12,7 @@ const BANG: u8 = 33;
 const CLOSING: u8 = 41;
 
 // How many signs `!`, and the place behind them.
-#[derive(Drop)]
+#[derive(Clone, Copy)]
 pub struct Bangs {
     pub next: usize,
     pub count: usize,

@@ -53,14 +53,14 @@ paths_agree agree same kept =
 -- The LUTs of a list of ids
 
 module _ (cuts tables : List ℕ) where
-  or-true : (a : Bool) {b : Bool} → (a || b) ≡ true → (a ≡ true) ⊎ (b ≡ true)
-  or-true true e = inl refl
-  or-true false e = inr e
+  or_true : (a : Bool) {b : Bool} → (a || b) ≡ true → (a ≡ true) ⊎ (b ≡ true)
+  or_true true e = inl refl
+  or_true false e = inr e
 
   listed_member : (ids : List ℕ) (v : ℕ) → is_listed (map (lut_in cuts tables) ids) v ≡ true → Memᴰ v ids
   unfolding is_listed
   listed_member [] v e = absurd (mathlib.Core.Bool.false≢true e)
-  listed_member (u ∷ ids) v e = by (or-true (eqb u v) e) (listed_member ids v)
+  listed_member (u ∷ ids) v e = by (or_true (eqb u v) e) (listed_member ids v)
     where
       by : (eqb u v ≡ true) ⊎ (is_listed (map (lut_in cuts tables) ids) v ≡ true) →
           (is_listed (map (lut_in cuts tables) ids) v ≡ true → Memᴰ v ids) → Memᴰ v (u ∷ ids)

@@ -17,14 +17,14 @@ use sheet::{Fault, Ruling};
 use storage::CutSize;
 
 // What stands at the front of a field: its tag, and how long its value is.
-#[derive(Drop)]
+#[derive(Clone, Copy)]
 pub struct Front {
     pub tag: usize,
     pub size: usize,
 }
 
 // What is told of the field at a place: nothing where too few bytes are left for its front.
-#[derive(Drop)]
+#[derive(Clone, Copy)]
 pub enum Field {
     Short,
     Begun(Front),

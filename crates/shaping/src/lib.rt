@@ -1,4 +1,6 @@
 // The shape of a sheet, and a sheet of sound shape in arrays: pass one of the inspector.
+#![tactic(auto)]
+
 mod fields;
 mod loading;
 mod numbers;
@@ -21,7 +23,7 @@ use sheet::{Form, Ruling};
 use storage::{Label, Numbers};
 
 // What a sheet is read by: its form, the greatest depth and label, and the numbers of the drawing.
-#[derive(Drop)]
+#[derive(Clone, Copy)]
 pub struct Terms {
     pub form: Form,
     pub most: Label,

@@ -42,7 +42,7 @@ pub fn load_lines(
 }
 
 // Where the next LUT stands, and how many are left.
-#[derive(Drop)]
+#[derive(Clone, Copy)]
 pub struct Turn {
     pub at: usize,
     pub left: usize,

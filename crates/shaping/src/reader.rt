@@ -6,7 +6,7 @@ ghost use Rattle.shaping.specs.Fields.{field_at};
 
 use crate::fields::{Field, field_at, field_end};
 
-#[derive(Drop)]
+#[derive(Clone, Copy)]
 pub struct Reader<'a> {
     pub sheet: &'a [u8],
     pub at: usize,

@@ -15,7 +15,7 @@ use sheet::limits::DEPTH_AT;
 use sheet::{Fault, Ruling};
 
 // The lines and LUTs that are still due, and the lowest root that may follow.
-#[derive(Drop)]
+#[derive(Clone, Copy)]
 pub struct Left {
     pub lines: usize,
     pub luts: usize,
@@ -23,7 +23,7 @@ pub struct Left {
 }
 
 // What pass one waits for, or its ruling.
-#[derive(Drop)]
+#[derive(Clone, Copy)]
 pub enum Run {
     Head,
     Fields(Left),

@@ -1,4 +1,6 @@
 // The bytes of a mapping sheet, written into a buffer that the caller lends.
+#![tactic(auto)]
+
 pub mod bytes;
 pub mod faults;
 pub mod limits;
@@ -14,7 +16,7 @@ use drawing::limits::{ID_SIZE, ROWS_SIZE, VERSION};
 use storage::{CutSize, Label, Node};
 
 // The tags of a sheet's fields, and in how many bytes it writes an id; depths, labels, LUT counts and path lengths are as wide.
-#[derive(Drop)]
+#[derive(Clone, Copy)]
 pub struct Form {
     pub width: usize,
     pub head: u8,
@@ -23,7 +25,7 @@ pub struct Form {
 }
 
 // What the shape of a sheet is refused for, with the place that the refusal names.
-#[derive(Drop)]
+#[derive(Clone, Copy)]
 pub enum Fault {
     Torn(usize),
     Tag(usize),
@@ -33,7 +35,7 @@ pub enum Fault {
 }
 
 // The ruling on one field of a sheet, or on all of it.
-#[derive(Drop)]
+#[derive(Clone, Copy)]
 pub enum Ruling {
     Sound,
     Faulty(Fault),

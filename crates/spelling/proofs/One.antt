@@ -4,14 +4,14 @@ use native.Mathlib.Decide.{dec_lt}
 use native.Mathlib.Omega.{arith}
 use mathlib.Core.Path.{◌≡◌, sym, ap, ◌∙◌}
 use mathlib.Core.Logic.{inl, inr}
-use mathlib.Core.Bool.{true, false, true≢false}
+use mathlib.Core.Bool.{true, true≢false}
 use mathlib.Core.List.{List}
-use Rattle.grammar.specs.paper.Text.{byte_at, is_letter, is_word_byte, most_letters}
+use Rattle.grammar.specs.paper.Text.{byte_at, is_word_byte, most_letters}
 use Rattle.grammar.specs.paper.Grammar.{between}
 use Rattle.grammar.specs.Machine.{is_keyword}
 use Rattle.spelling.specs.declared.Word.{Word}
 use Rattle.spelling.specs.declared.Word.TheVariants as word
-use Rattle.spelling.specs.Spelling.{Ends, Named, Keyword, Unnamed, Spelled}
+use Rattle.spelling.specs.Spelling.{Ends, Named, Unnamed, Spelled}
 
 module _ (s : List ℕ) {i : ℕ} where
   -- a word that goes on no further is as long as any other there

@@ -1,4 +1,6 @@
 // How equations are spelled: bytes, blanks and names at a place of a text. Behind the text's end stands byte 0, which nothing of the grammar is.
+#![tactic(auto)]
+
 ghost use Rattle.std.specs.Prelude.{◌≡◌, ◌≤◌, ◌<◌, length};
 ghost use Rattle.grammar.specs.paper.Text.{byte_at, is_blank, is_letter, is_word_byte};
 ghost use Rattle.grammar.specs.paper.Grammar.{between};
@@ -18,7 +20,7 @@ pub const MOST_TEXT: usize = 8192;
 pub const MOST_LETTERS: usize = 16;
 
 // What stands where a name is due: a name, up to this place; or none, and this is the byte that cannot stand there.
-#[derive(Drop)]
+#[derive(Clone, Copy)]
 pub enum Word {
     Name(usize),
     Stopped(usize),

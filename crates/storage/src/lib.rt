@@ -1,27 +1,29 @@
 // What lies in slices that a caller lends: lists of ids, marks, and numbers in columns; and the words that keep node, label and cut size apart.
+#![tactic(auto)]
+
 pub mod columns;
 pub mod lists;
 pub mod marks;
 pub mod roles;
 
 // Document 01 names a label, a node cut_size and a node separately: three types, so that none can stand for another.
-#[derive(Drop)]
+#[derive(Clone, Copy)]
 pub struct Node {
     pub id: u16,
 }
 
-#[derive(Drop)]
+#[derive(Clone, Copy)]
 pub struct Label {
     pub depth: u16,
 }
 
-#[derive(Drop)]
+#[derive(Clone, Copy)]
 pub struct CutSize {
     pub leaves: u8,
 }
 
 // The numbers of a drawing: K, the inputs, all nodes, and how many roots a cover has to reach.
-#[derive(Drop)]
+#[derive(Clone, Copy)]
 pub struct Numbers {
     pub k: CutSize,
     pub inputs: usize,

@@ -1,4 +1,6 @@
 // The bytes of a gate table, written field by field into a buffer that the caller lends. Each function answers the next place.
+#![tactic(auto)]
+
 ghost use Rattle.std.specs.Prelude.{[], ◌∷◌};
 ghost use Rattle.drawing.specs.paper.Forms.{narrow_table};
 ghost use Rattle.sheet.specs.paper.Encoding.{id_bytes};

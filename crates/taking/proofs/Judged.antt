@@ -33,7 +33,7 @@ use Rattle.walking.proofs.Unique.{lowest_one, some_loop}
 use Rattle.taking.specs.declared.Taking.{Taking}
 use Rattle.taking.specs.declared.Taking.TheVariants.{Taken, Refused, LoopAt, TooShort}
 use Rattle.taking.specs.Taking.{roomy, after_order, After, Takes}
-use Rattle.taking.specs.paper.Taken.{drawn, ReadsWhole, IsTaken}
+use Rattle.taking.specs.paper.Taken.{drawn, ReadsWhole}
 use Rattle.taking.specs.paper.Says.{Says}
 use Rattle.taking.specs.Judged.{Ready}
 use Rattle.taking.proofs.Takings.{holds_drawn}

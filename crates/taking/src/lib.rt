@@ -1,4 +1,6 @@
 // Takes a gate table: reads it into lent arrays and orders its gates. Refusals 1 to 7 of the paper.
+#![tactic(auto)]
+
 ghost use Rattle.drawing.specs.Reading.{arrays_of};
 ghost use Rattle.walking.specs.Promises.{OrderRoom};
 ghost use Rattle.taking.specs.Taking.{TableOrdered, Takes};
@@ -10,7 +12,7 @@ use walking::Ordering;
 
 // A table taken, with its numbers; or refused; or the lowest gate on a loop.
 // TooShort: a lent array is shorter than the largest table needs.
-#[derive(Drop)]
+#[derive(Clone, Copy)]
 pub enum Taking {
     Taken(Numbers),
     Refused(Refusal),

@@ -2,10 +2,8 @@
 use Prim.Native.Nat.{ℕ, ◌≤◌, ◌<◌}
 use native.Mathlib.Omega.{arith}
 use mathlib.Core.Path.{◌≡◌, refl, ap, subst}
-use mathlib.Core.List.{List, [], ◌∷◌}
+use mathlib.Core.List.{List}
 use lib.ListN.{length, take, drop, length-append}
-use types.Run.{OneOf, miss}
-use denote.Enum.Declared.{tag_of}
 use Rattle.tabling.specs.paper.Encoding.{encode}
 use Rattle.grammar.specs.paper.Gates.{table_for}
 use Rattle.wording.specs.paper.Text.{refused_line}
@@ -16,15 +14,11 @@ use Rattle.listing.specs.paper.Lists.{text_room, Lists}
 use Rattle.compiling.specs.declared.Reply.{Reply}
 use Rattle.compiling.specs.declared.Reply.TheVariants.{Compiled, Text, Name, Numbers, LoopAt, Room}
 use Rattle.compiling.specs.paper.Compiles.{number, place, Compiles}
-use Rattle.compiling.specs.contracts.Reply as kinds
 use Rattle.telling.specs.paper.Tells.{Tells}
 
--- the tags of all replies but the first, in the enum's order
-abbrev refusals : List ℕ
-refusals = 1 ∷ 2 ∷ 3 ∷ 4 ∷ 5 ∷ []
-
-some_number : (r : Reply) → OneOf refusals (tag_of kinds.the_type r) → number r ≡ 0 → ⊥
-some_number (Compiled n) one e = absurd (miss refusals 0 tt one)
+-- each reply but the first has a number
+some_number : (r : Reply) → ((n : ℕ) → r ≡ Compiled n → ⊥) → number r ≡ 0 → ⊥
+some_number (Compiled n) one e = absurd (one n refl)
 some_number (Text at) one e = omega arith
 some_number (Name at) one e = omega arith
 some_number Numbers one e = omega arith
@@ -68,7 +62,7 @@ module _ {s : List ℕ} {k : ℕ} {table table' : List ℕ} where
         Told s k table lines n m table' lines'
     told_table compiles (lists, front) = (Tells.listed room compiles lists, (table_front compiles, front))
 
-    pub told_refusal : (reply : Reply) {a b : ℕ} → OneOf refusals (tag_of kinds.the_type reply) → Compiles s k table reply table' → a ≡ number reply →
+    pub told_refusal : (reply : Reply) {a b : ℕ} → ((n : ℕ) → reply ≡ Compiled n → ⊥) → Compiles s k table reply table' → a ≡ number reply →
         b ≡ place reply → Wrote lines (refused_line a b) m lines' → Told s k table lines 0 m table' lines'
     told_refusal reply one compiles number_is place_is wrote =
         let some = some_number reply one in (

@@ -1,4 +1,6 @@
 // What the program that reads equations writes, from bytes to lent buffers.
+#![tactic(auto)]
+
 ghost use Rattle.std.specs.Prelude.{◌≡◌};
 ghost use Rattle.wording.specs.paper.Filled.{Front};
 ghost use Rattle.telling.specs.paper.Tells.{Tells};
@@ -14,7 +16,7 @@ const ZERO: u8 = 48;
 const NINE: u8 = 57;
 
 // How many bytes the program has to write: of the table's buffer to a file, of the lines' to standard output.
-#[derive(Drop)]
+#[derive(Clone, Copy)]
 pub struct Lengths {
     pub table: usize,
     pub lines: usize,

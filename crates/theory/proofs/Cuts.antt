@@ -73,7 +73,7 @@ module _ {net : Net} {k : ℕ} (bounded : Bounded net k) (ranked : Ranked net) w
 
   -- The distinct fanins of a gate are a cut: the walk stops at once.
 
-  fanins_end_walk : {t v : ℕ} {leaves : List ℕ} → DistinctFanins net t leaves → Walked net leaves t v → v ≡ t
+  fanins_end_walk : {t : ℕ} {leaves : List ℕ} {v : ℕ} → DistinctFanins net t leaves → Walked net leaves t v → v ≡ t
   fanins_end_walk d Walked.start = refl
   fanins_end_walk {t} {leaves = leaves} d (Walked.step {v = v} {u = u} w m out) =
       absurd (out (d.leaf u (subst (λ (x : ℕ). Memᴰ u (net.fanins x)) (fanins_end_walk d w) m)))

@@ -20,18 +20,18 @@ use Rattle.theory.proofs.DecideNet.{is_gate, decides_gate}
 use Rattle.theory.proofs.DecideCut.{walk_rows, is_met_by, is_met, is_behind, decides_behind}
 
 -- `rows` are the marks of what lies behind t.
-unfoldable is_in_dBy : List (List Bool) → Net → (ℕ → ℕ) → ℕ → ℕ → Bool
+unfoldable is_in_d_by : List (List Bool) → Net → (ℕ → ℕ) → ℕ → ℕ → Bool
 unfolding is_gate is_met_by peak greatest
-is_in_dBy rows net lab t v = eqb v t || (is_gate net v && eqb (lab v) (peak net lab t) && is_met_by rows net t v)
+is_in_d_by rows net lab t v = eqb v t || (is_gate net v && eqb (lab v) (peak net lab t) && is_met_by rows net t v)
 
 unfoldable is_outside_by : List (List Bool) → Net → (ℕ → ℕ) → ℕ → List ℕ → Bool
-unfolding is_in_dBy every
-is_outside_by rows net lab t vs = every (λ v. not (is_in_dBy rows net lab t v)) vs
+unfolding is_in_d_by every
+is_outside_by rows net lab t vs = every (λ v. not (is_in_d_by rows net lab t v)) vs
 
 -- is the list that goes on from u with vs a run?
 unfoldable is_run_by : List (List Bool) → Net → (ℕ → ℕ) → ℕ → ℕ → List ℕ → Bool
-unfolding is_in_dBy some_below is_member
-is_run_by rows net lab t u [] = some_below net.nodes (λ d. is_in_dBy rows net lab t d && is_member u (net.fanins d))
+unfolding is_in_d_by some_below is_member
+is_run_by rows net lab t u [] = some_below net.nodes (λ d. is_in_d_by rows net lab t d && is_member u (net.fanins d))
 is_run_by rows net lab t u (v ∷ vs) = is_member u (net.fanins v) && is_run_by rows net lab t v vs
 
 unfoldable is_path_by : List (List Bool) → Net → (ℕ → ℕ) → ℕ → List ℕ → Bool
@@ -44,8 +44,8 @@ unfolding is_path_by every is_apart joined
 is_evidence_by rows net k lab t paths = eqb (length paths) (suc k) && is_apart (joined paths) && every (is_path_by rows net lab t) paths
 
 unfoldable pub is_in_d : Net → (ℕ → ℕ) → ℕ → ℕ → Bool
-unfolding is_in_dBy walk_rows
-is_in_d net lab t v = is_in_dBy (walk_rows net [] t) net lab t v
+unfolding is_in_d_by walk_rows
+is_in_d net lab t v = is_in_d_by (walk_rows net [] t) net lab t v
 
 unfoldable pub is_outside : Net → (ℕ → ℕ) → ℕ → List ℕ → Bool
 unfolding is_outside_by walk_rows
@@ -60,7 +60,7 @@ module _ {net : Net} {b : ℕ} (bounded : Bounded net b) (lab : ℕ → ℕ) {t 
   rows = walk_rows net [] t
 
   pub decides_in_d : (v : ℕ) → Decides (is_in_d net lab t v) (InD net lab t v)
-  unfolding is_in_d is_in_dBy is_met is_behind
+  unfolding is_in_d is_in_d_by is_met is_behind
   decides_in_d v = decides_as whole split
       (decides_or
       (decides_equal v t)

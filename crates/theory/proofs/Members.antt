@@ -56,8 +56,9 @@ no_repeats_after [] apart = apart
 no_repeats_after (v ∷ l) (NoRepeats.more new apart) = no_repeats_after l apart
 
 pub no_repeats_apart : {v : ℕ} {l m : List ℕ} → NoRepeats (l ++ m) → Memᴰ v l → Memᴰ v m → ⊥
+no_repeats_apart {l = []} apart here there = absurd (Memᴰ.not-nil here)
 no_repeats_apart {l = u ∷ l} {m} (NoRepeats.more new apart) here there =
-    ⊎_elim (λ e. new (Memᴰ.append_right l (Memᴰ.cast (sym e) there))) (λ late. no_repeats_apart apart late there) (Memᴰ.cases_cons here)
+    ⊎_elim (λ e. new (Memᴰ.append_right l (Memᴰ.cast (sym e) there))) (λ late. no_repeats_apart {l = l} {m = m} apart late there) (Memᴰ.cases_cons here)
 
 pub some_member : (l : List ℕ) → 1 ≤ length l → (v : ℕ) × Memᴰ v l
 some_member [] some = absurd (not-suc-le-zero some)

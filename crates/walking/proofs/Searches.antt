@@ -16,7 +16,7 @@ use mathlib.Core.Bool.{Bool, true, false, or-true}
 use Rattle.storage.specs.Drawings.{net_in}
 use Rattle.storage.specs.Marks.{Tells}
 use Rattle.storage.specs.Lists.{list_at}
-use Rattle.storage.proofs.Entries.{member_more, member_last, is_member, no_member, member_of_part, part_place}
+use Rattle.storage.proofs.Entries.{member_more, member_last, is_member_lem, no_member, member_of_part, part_place}
 use Rattle.storage.proofs.Drawings.{fanins_in}
 use Rattle.theory.specs.paper.Walk.{Walked, Behind, Loop}
 use Rattle.theory.proofs.Walks.{behind_on}
@@ -40,7 +40,7 @@ module _ (inputs : ℕ) where
     where
       either : Dec (v < inputs) → Dec (Memᴰ v l) → Notes l v (noted inputs l v)
       either (yes low) m = rw (lt-ltb v inputs low) (Notes.settled (inl low))
-      either (no high) (yes m) = rw (is_member m, or-true (ltb v inputs)) (Notes.settled (inr m))
+      either (no high) (yes m) = rw (is_member_lem m, or-true (ltb v inputs)) (Notes.settled (inr m))
       either (no high) (no new) = rw (le-ltb v inputs (omega arith), no_member new) Notes.goes
 
   -- what is behind the list stays

@@ -15,7 +15,7 @@ use Rattle.storage.specs.Marks.{Marks}
 use Rattle.storage.specs.Roles.{walked_bit, met_bit, walked_in, met_in}
 use Rattle.storage.proofs.Clears.{beyond_then}
 use Rattle.storage.proofs.Views.{view_size}
-use Rattle.storage.proofs.Entries.{place_of, member_at, one_place, is_member, no_member}
+use Rattle.storage.proofs.Entries.{place_of, member_at, one_place, is_member_lem, no_member}
 use Rattle.storage.proofs.InRoles.{walked_bit_lem, met_bit_lem}
 use Rattle.theory.specs.paper.Net.{Net, Gate}
 use Rattle.theory.specs.paper.Sound.{Bounded}
@@ -77,7 +77,7 @@ module _ (leaves : List ℕ) where
           }
 
       either : Dec (Memᴰ u leaves) → Opened leaves (u ∷ []) marks (mark_one leaves marks u)
-      either (yes here) = rw (is_member here) (leaf here)
+      either (yes here) = rw (is_member_lem here) (leaf here)
       either (no out) = rw (no_member out) (opened out)
 
   opened_on : {u : ℕ} {us marks marks' marks'' : List ℕ} → Opened leaves (u ∷ []) marks marks' → Opened leaves us marks' marks'' → Opened leaves (u ∷ us) marks marks''

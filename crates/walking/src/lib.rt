@@ -1,4 +1,6 @@
 // Loops found, the order of the gates made, cones walked. Arrays in, arrays out; no bytes.
+#![tactic(auto)]
+
 mod cones;
 mod gathering;
 mod loops;
@@ -14,7 +16,7 @@ use storage::roles::WALKED;
 use storage::{CutSize, Node, Numbers};
 
 // The order is made, or the lowest gate that reaches itself.
-#[derive(Drop)]
+#[derive(Clone, Copy)]
 pub enum Ordering {
     Whole,
     LoopAt(Node),

@@ -11,7 +11,7 @@ use storage::{Node, Numbers};
 use walking::is_cut;
 
 // All LUTs keep 25 and 29, or the first that does not, by its root.
-#[derive(Drop)]
+#[derive(Clone, Copy)]
 pub enum LutsJudged {
     Kept,
     Cut(Node),

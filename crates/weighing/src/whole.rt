@@ -10,7 +10,7 @@ use storage::marks::{above, put_label};
 use storage::{Label, Node, Numbers};
 
 // The whole keeps 28 and 30; or the lowest gate that breaks 28; or 30 is broken.
-#[derive(Drop)]
+#[derive(Clone, Copy)]
 pub enum WholeJudged {
     Kept,
     Cover(Node),

@@ -1,4 +1,6 @@
 // The text that the programs print, made in a buffer that the caller lends.
+#![tactic(auto)]
+
 mod lines;
 mod words;
 

@@ -24,8 +24,8 @@ text_at = Answer.ungrammatical
 abbrev name_at : (place : ℕ) → Answer
 name_at = Answer.misnamed
 
-abbrev loop_at_lem : (gate : ℕ) → Answer
-loop_at_lem = Answer.loops
+abbrev loop_at : (gate : ℕ) → Answer
+loop_at = Answer.loops
 
 abbrev table : (inputs : ℕ) → List GateLine → (outputs : List ℕ) → Answer
 table inputs gates outputs = Answer.becomes (record { k = 2; inputs = inputs; gates = gates; outputs = outputs })
@@ -110,8 +110,8 @@ texts =
     typed "in a;f=g*a;g=!a;out f;" (table 1 (and 2 0 ∷ inverse 0 ∷ []) (1 ∷ [])) ∷
     typed "in a;f=g;g=!h+a;h=a;out f;" (table 1 (pass 3 ∷ inverse 4 ∷ or 2 0 ∷ pass 0 ∷ []) (1 ∷ [])) ∷
     -- A loop, also of one name that is its own value, and also behind no output.
-    typed "in a;f=f;out f;" (loop_at_lem 1) ∷
-    typed "in a;e=!a;f=g*a;g=f;out a;" (loop_at_lem 2) ∷
+    typed "in a;f=f;out f;" (loop_at 1) ∷
+    typed "in a;e=!a;f=g*a;g=f;out a;" (loop_at 2) ∷
     -- K is what the user gives, 2 to 6.
     typed_for 6 "in a;out a;" (Answer.becomes (record { k = 6; inputs = 1; gates = []; outputs = 0 ∷ [] })) ∷
     typed_for 0 "in a;out a;" Answer.outside ∷

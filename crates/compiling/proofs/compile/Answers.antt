@@ -1,0 +1,31 @@
+-- `compile` meets its contract: length, grammar, and then names.
+use native.Mathlib.Omega.{arith}
+use mathlib.Core.Path.{refl}
+use Prim.Native.Nat.{◌*◌}
+use Rattle.grammar.specs.paper.Text.{most_text}
+use Rattle.compiling.specs.paper.Compiles.{Compiles}
+use Rattle.compiling.proofs.Scans.{scanned, zeros}
+use Rattle.compiling.proofs.Outcomes.{ungrammatical}
+use Rattle.compiling.proofs.compile.Goals as goal
+
+pub returns-then-text-gt-MOST_TEXT : goal.returns-then-text-gt-MOST_TEXT
+returns-then-text-gt-MOST_TEXT c = Compiles.long c.if-text-gt-MOST_TEXT.true refl refl
+
+pub read_text-scan-requires : goal.read_text-scan-requires
+read_text-scan-requires c =
+    record {
+      short = omega arith;
+      gates_room = omega arith;
+      names_room = omega arith;
+      gates_empty = λ i above. zeros (3 * most_text) i;
+      names_empty = zeros most_text;
+    }
+
+pub compile_scanned-requires : goal.compile_scanned-requires
+compile_scanned-requires c =
+    scanned (omega arith) (omega arith) (omega arith)
+    (rw c.in-Read.is at c.read_text-scan.ensures)
+
+pub returns-in-Stopped : goal.returns-in-Stopped
+returns-in-Stopped c =
+    ungrammatical (omega arith) (rw c.in-Stopped.is at c.read_text-scan.ensures).halts

@@ -1,0 +1,32 @@
+-- `head_ruling` meets its contract: the frame's ruling, and where that is sound the value's.
+use native.Mathlib.Omega.{arith}
+use mathlib.Core.Path.{sym, ◌∙◌}
+use mathlib.Core.Bool.{false}
+use Rattle.drawing.specs.paper.Fields.{frame_rules, head_rules}
+use Rattle.drawing.proofs.Verdicts.{frame_fits, refused_first, sound_first}
+use Rattle.drawing.proofs.fields.head_ruling.Goals as goal
+
+-- src/fields.rt:96:27
+pub head_value-requires : goal.head_value-requires
+head_value-requires c =
+    let a = c.args in record {
+      formed = c.requires;
+      s_in_bounds = frame_fits a.s.now 0 a.form.head false (omega arith)
+          (sym c.frame-framed.ensures ∙ c.in-Sound.is);
+    }
+
+-- src/fields.rt:89:1
+pub returns-in-Refused : goal.returns-in-Refused
+returns-in-Refused c =
+    let a = c.args in
+    let s = a.s.now in
+    refused_first (frame_rules s 0 a.form.head false) (head_rules a.form s) tt c.frame-framed.ensures
+    c.in-Refused.is
+
+-- src/fields.rt:89:1
+pub returns-in-Sound : goal.returns-in-Sound
+returns-in-Sound c =
+    let a = c.args in
+    let s = a.s.now in
+    sound_first (frame_rules s 0 a.form.head false) (head_rules a.form s) tt c.frame-framed.ensures
+    c.in-Sound.is c.head_value.ensures

@@ -1,0 +1,12 @@
+-- `add_path` meets its contract: the walk back keeps a flow with one path more, whose start is loose until it is an
+-- input.
+use Rattle.storage.specs.Entries.{at}
+use Rattle.flow.specs.Links.{ins_in}
+use Rattle.flow.proofs.Augmented.{Augmenting}
+use Rattle.flow.proofs.augmenting.add_path.Given as goal
+
+abbrev pub invariant-loop-from : goal.invariant-loop-from
+invariant-loop-from l = Augmenting l.numbers.inputs l.numbers.nodes l.fanins l.roles l.initial.links l.links l.loose.id l.from
+
+abbrev pub decreases-loop-from : goal.decreases-loop-from
+decreases-loop-from l = at (ins_in l.numbers.nodes l.links) l.loose.id

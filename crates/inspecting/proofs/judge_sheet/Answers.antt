@@ -1,0 +1,25 @@
+-- `judge_sheet` meets its contract.
+use native.Mathlib.Omega.{arith}
+use mathlib.Core.Path.{sym, ◌∙◌}
+use Rattle.storage.proofs.Drawings.{drawn_span}
+use Rattle.inspecting.specs.Holding.{SheetRuled}
+use Rattle.inspecting.proofs.judge_sheet.Goals as goal
+
+pub judge_shape-shape-requires : goal.judge_shape-shape-requires
+judge_shape-shape-requires c =
+    rw c.terms_for.ensures record { narrow = record { some = omega arith; few = omega arith }; inputs_le_nodes = drawn_span c.requires.drawing.drawn }
+
+pub judge_rules-requires : goal.judge_rules-requires
+judge_rules-requires c =
+    record {
+      laid = c.requires;
+      sound =
+          sym (rw c.terms_for.ensures at c.judge_shape-shape.ensures)
+          ∙ c.in-Sound.is;
+    }
+
+pub returns-in-Faulty : goal.returns-in-Faulty
+returns-in-Faulty c =
+    SheetRuled.faulty
+    (sym (rw c.terms_for.ensures at c.judge_shape-shape.ensures)
+    ∙ c.in-Faulty.is)

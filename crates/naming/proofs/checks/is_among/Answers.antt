@@ -1,0 +1,50 @@
+-- `is_among` meets its contract: none of the names passed has the word.
+use native.Mathlib.Omega.{arith}
+use mathlib.Core.Path.{◌≡◌, ap, sym, ◌∙◌}
+use mathlib.Core.Bool.{true, false, true≢false, false≢true}
+use borrow.Author.Count.{below_more}
+use Rattle.grammar.specs.paper.Text.{word_at, same_word}
+use Rattle.naming.specs.Stored.{place_in}
+use Rattle.grammar.proofs.Bytes.{same_word_is}
+use Rattle.naming.proofs.Alike.{same_fails}
+use Rattle.naming.proofs.checks.is_among.Goals as goal
+
+pub loop-i-init : goal.loop-i-init
+loop-i-init c = (omega arith, λ k low. absurd (omega arith))
+
+pub returns-then-same_word : goal.returns-then-same_word
+returns-then-same_word c =
+    let a = c.args in
+    let s = a.text.now in
+    let i = c.loop-i.i in
+    let here : place_in a.names.now i ≡ c.place_at.result =
+    sym c.place_at.ensures in
+    let test : same_word (word_at s c.place_at.result) (word_at s a.place) ≡ true =
+    sym c.same_word.ensures ∙ c.if-same_word.true in
+    record {
+      yes = λ e. record {
+        index = i;
+        low = omega arith;
+        same =
+            ap (word_at s) here ∙ same_word_is (word_at s c.place_at.result) (word_at s a.place) test;
+      };
+      no = λ e. absurd (true≢false e);
+    }
+
+pub loop-i-preserved : goal.loop-i-preserved
+loop-i-preserved c =
+    let a = c.args in
+    let s = a.text.now in
+    let here : c.place_at.result ≡ place_in a.names.now c.loop-i.i =
+    c.place_at.ensures in
+    let test : same_word (word_at s c.place_at.result) (word_at s a.place) ≡ false =
+    sym c.same_word.ensures ∙ c.if-same_word.false in
+    (omega arith, below_more _ _ c.loop-i.invariant.1 (λ same. same_fails test (ap (word_at s) here ∙ same)))
+
+pub returns : goal.returns
+returns c =
+    let l = c.loop-i in
+    record {
+      yes = λ e. absurd (false≢true e);
+      no = λ e among. l.invariant.1 among.index (omega (arith, among.low)) among.same;
+    }

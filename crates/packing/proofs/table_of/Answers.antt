@@ -1,0 +1,26 @@
+-- `table_of` meets its contract: a root's cone has its table from the gate's own leaves.
+use native.Mathlib.Omega.{arith}
+use Rattle.packing.proofs.TablesStored.{no_table, cone_asked, cone_answered}
+use Rattle.packing.proofs.table_of.Goals as goal
+
+pub returns-then-luts-v-ne1 : goal.returns-then-luts-v-ne1
+returns-then-luts-v-ne1 c =
+    let a = c.args in
+    no_table a.numbers.inputs a.numbers.nodes a.fanins.now a.rows.now a.cuts.now
+    a.luts.now a.gate.id a.words.now c.if-luts-v-ne1.true
+
+pub cut_size-requires : goal.cut_size-requires
+cut_size-requires c =
+    let args = c.args in
+    let p = c.requires in
+    record { id_in_bounds = omega (arith, p.low, p.arrays.cuts_long); id_bound = p.arrays.six args.gate.id p.low }
+
+pub cone_table-requires : goal.cone_table-requires
+cone_table-requires c =
+    let pre = c.requires in
+    cone_asked pre c.if-luts-v-ne1.false c.cut_size.ensures
+
+pub returns : goal.returns
+returns c =
+    let pre = c.requires in
+    cone_answered pre c.if-luts-v-ne1.false c.cut_size.ensures c.cone_table.ensures

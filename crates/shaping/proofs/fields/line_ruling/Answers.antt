@@ -1,0 +1,74 @@
+-- `line_ruling` meets its contract: the frame's ruling, then length, then range.
+use mathlib.Core.Path.{sym, ◌∙◌}
+use borrow.Author.Tests.{not-true}
+use Rattle.sheet.specs.paper.Shape.{line_ruling, line_length_wrong, line_range, line_at}
+use Rattle.shaping.specs.Terms.{due_of}
+use Rattle.shaping.proofs.Rulings.{frame_fits, frame_faulty, frame_sound, value_wrong, value_far, value_sound}
+use mathlib.Core.Bool.{false}
+use Rattle.shaping.proofs.fields.line_ruling.Goals as goal
+
+pub returns-in-Faulty : goal.returns-in-Faulty
+unfolding line_ruling
+returns-in-Faulty c =
+    let s = c.args.sheet.now in
+    let due = due_of c.args.terms in
+    let at = c.args.at in
+    frame_faulty s at due.form.line (line_length_wrong due s at) (line_range due (line_at due s at))
+    c.frame-framed.ensures c.in-Faulty.is
+
+pub line_uses-requires : goal.line_uses-requires
+line_uses-requires c =
+    record {
+      narrow = c.requires.narrow;
+      at_in_bounds = frame_fits c.args.sheet.now c.args.at c.args.terms.form.line false false
+          c.frame-framed.ensures c.in_default.is;
+    }
+
+pub returns-then-not-line_uses : goal.returns-then-not-line_uses
+unfolding line_ruling
+returns-then-not-line_uses c =
+    let s = c.args.sheet.now in
+    let due = due_of c.args.terms in
+    let at = c.args.at in
+    frame_sound s at due.form.line (line_length_wrong due s at) (line_range due (line_at due s at))
+    c.frame-framed.ensures c.in_default.is
+    (value_wrong at (line_length_wrong due s at) (line_range due (line_at due s at)) c.line_uses.ensures
+    c.if-not-line_uses.true)
+
+pub line_in_range-requires : goal.line_in_range-requires
+line_in_range-requires c =
+    let s = c.args.sheet.now in
+    let due = due_of c.args.terms in
+    let at = c.args.at in record {
+      narrow = c.requires.narrow;
+      at_in_bounds = frame_fits s at due.form.line false false c.frame-framed.ensures
+          c.in_default.is;
+      at_value = not-true (line_length_wrong due s at)
+          (sym c.line_uses.ensures ∙ c.if-not-line_uses.false);
+    }
+
+pub returns-then-not-line_in_range : goal.returns-then-not-line_in_range
+unfolding line_ruling
+returns-then-not-line_in_range c =
+    let s = c.args.sheet.now in
+    let due = due_of c.args.terms in
+    let at = c.args.at in
+    frame_sound s at due.form.line (line_length_wrong due s at) (line_range due (line_at due s at))
+    c.frame-framed.ensures c.in_default.is
+    (value_far at (line_length_wrong due s at) (line_range due (line_at due s at)) c.line_uses.ensures
+    c.line_in_range.ensures
+    c.if-not-line_uses.false
+    c.if-not-line_in_range.true)
+
+pub returns : goal.returns
+unfolding line_ruling
+returns c =
+    let s = c.args.sheet.now in
+    let due = due_of c.args.terms in
+    let at = c.args.at in
+    frame_sound s at due.form.line (line_length_wrong due s at) (line_range due (line_at due s at))
+    c.frame-framed.ensures c.in_default.is
+    (value_sound at (line_length_wrong due s at) (line_range due (line_at due s at))
+    c.line_uses.ensures c.line_in_range.ensures
+    c.if-not-line_uses.false
+    c.if-not-line_in_range.false)

@@ -1,0 +1,74 @@
+-- `load_lines` meets its contract: the nodes passed have their entries, an input none of a line.
+use Prim.Native.Nat.{◌+◌}
+use Rattle.shaping.specs.Terms.{due_of}
+use Rattle.shaping.proofs.Filling.{lines_room}
+use Rattle.shaping.proofs.FieldRuns.{head_end}
+use Rattle.shaping.proofs.Found.{whole, lines_loading, lines_loaded, input_more, gate_end}
+use Rattle.shaping.proofs.Found.{gate_ready, gate_more}
+use native.Mathlib.Omega.{arith}
+use Rattle.shaping.proofs.loading.load_lines.Goals as goal
+
+pub field_end-at-requires : goal.field_end-at-requires
+field_end-at-requires c =
+    let due = due_of c.args.terms in
+    let s = c.args.sheet.now in
+    head_end due s (whole due s c.requires.loadable.sound).head
+
+pub loop-v-init : goal.loop-v-init
+loop-v-init c = lines_loading c.field_end-at.ensures
+
+pub overflow_cast-node : goal.overflow_cast-node
+overflow_cast-node c =
+    omega (arith, c.requires.loadable.nodes)
+
+pub overflow_add-v : goal.overflow_add-v
+overflow_add-v c =
+    omega (arith, c.requires.loadable.nodes)
+
+pub put_no_line-requires : goal.put_no_line-requires
+put_no_line-requires c =
+    lines_room (c.loop-v.v + 1) (omega (arith, c.loop-v-test.true)) c.requires.line_room c.loop-v.invariant.filled
+
+pub loop-v-smaller-then-v-terms : goal.loop-v-smaller-then-v-terms
+loop-v-smaller-then-v-terms c =
+    omega (arith, c.loop-v-test.true)
+
+pub loop-v-preserved-then-v-terms : goal.loop-v-preserved-then-v-terms
+loop-v-preserved-then-v-terms c =
+    input_more c.loop-v.invariant c.requires.loadable.gates (omega (arith, c.if-v-terms.true)) c.requires.line_room
+    c.put_no_line.ensures
+
+pub put_line-requires : goal.put_line-requires
+put_line-requires c =
+    let all = whole (due_of c.args.terms) c.args.sheet.now c.requires.loadable.sound in record {
+      line_ready = gate_ready c.loop-v.invariant all (omega (arith, c.if-v-terms.false)) c.loop-v-test.true
+          c.requires.loadable.narrow c.requires.loadable.short;
+      line_room = lines_room (c.loop-v.v + 1) (omega (arith, c.loop-v-test.true)) c.requires.line_room c.loop-v.invariant.filled;
+    }
+
+pub field_end-at-requires-else-v-terms : goal.field_end-at-requires-else-v-terms
+field_end-at-requires-else-v-terms c =
+    let all = whole (due_of c.args.terms) c.args.sheet.now c.requires.loadable.sound in
+    gate_end c.loop-v.invariant all (omega (arith, c.if-v-terms.false)) c.loop-v-test.true
+
+pub loop-v-smaller : goal.loop-v-smaller
+loop-v-smaller c =
+    omega (arith, c.loop-v-test.true)
+
+pub loop-v-preserved : goal.loop-v-preserved
+loop-v-preserved c =
+    let all = whole (due_of c.args.terms) c.args.sheet.now c.requires.loadable.sound in
+    gate_more c.loop-v.invariant all (omega (arith, c.if-v-terms.false)) c.loop-v-test.true c.requires.line_room
+    c.put_line.ensures c.field_end-at-else-v-terms.ensures
+
+pub shape_of-labels : goal.shape_of-labels
+shape_of-labels c = c.loop-v.invariant.filled.labels.as_long
+
+pub shape_of-cuts : goal.shape_of-cuts
+shape_of-cuts c = c.loop-v.invariant.filled.cuts.as_long
+
+pub shape_of-places : goal.shape_of-places
+shape_of-places c = c.loop-v.invariant.filled.places.as_long
+
+pub returns : goal.returns
+returns c = lines_loaded c.loop-v.invariant (omega (arith, c.loop-v-test.false))

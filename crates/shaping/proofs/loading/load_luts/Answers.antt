@@ -1,0 +1,142 @@
+-- `load_luts` meets its contract: the nodes passed have their entries, and the LUTs left are those of the others.
+use Prim.Native.Nat.{◌+◌}
+use Rattle.shaping.specs.Terms.{due_of}
+use Rattle.shaping.specs.Loading.{lut_arrays}
+use Rattle.shaping.proofs.Filling.{luts_begin, luts_put, luts_room, lut_room_lem, luts_to, put_as}
+use Rattle.shaping.proofs.FieldRuns.{head_inside, lut_end, lut_whole}
+use Rattle.shaping.proofs.Found.{whole, left_first, next_inside, none_here, left_past, some_left}
+use Rattle.shaping.proofs.Found.{ruled_here, lut_here, left_behind}
+use native.Mathlib.Omega.{arith}
+use Rattle.shaping.proofs.loading.load_luts.Goals as goal
+
+pub overflow_add-width : goal.overflow_add-width
+overflow_add-width c =
+    omega (arith, c.requires.loadable.narrow.few)
+
+pub small_at-requires : goal.small_at-requires
+small_at-requires c =
+    record {
+      narrow = c.requires.loadable.narrow;
+      width_in_bounds = omega (
+        arith,
+        head_inside (due_of c.args.terms) c.args.sheet.now
+            (whole (due_of c.args.terms) c.args.sheet.now c.requires.loadable.sound).head,
+      );
+    }
+
+pub loop-v-init : goal.loop-v-init
+loop-v-init c =
+    let due = due_of c.args.terms in
+    let s = c.args.sheet.now in
+    record {
+      most = omega arith;
+      left = left_first due s (whole due s c.requires.loadable.sound) c.requires.start_value c.small_at.ensures.number;
+      filled = luts_begin (lut_arrays c.args.luts.now c.args.cuts.now c.args.tables.now);
+    }
+
+pub overflow_cast-node : goal.overflow_cast-node
+overflow_cast-node c =
+    omega (arith, c.requires.loadable.nodes)
+
+pub overflow_add-v : goal.overflow_add-v
+overflow_add-v c =
+    omega (arith, c.requires.loadable.nodes)
+
+pub next_root-requires : goal.next_root-requires
+next_root-requires c =
+    record {
+      narrow = c.requires.loadable.narrow;
+      nodes = c.requires.loadable.nodes;
+      inside = next_inside (due_of c.args.terms) c.args.sheet.now c.loop-v.invariant.left;
+    }
+
+pub put_no_lut-requires : goal.put_no_lut-requires
+put_no_lut-requires c =
+    luts_room (c.loop-v.v + 1) (omega (arith, c.loop-v-test.true)) c.requires.lut_room c.loop-v.invariant.filled
+
+pub loop-v-smaller-then-next_root-node : goal.loop-v-smaller-then-next_root-node
+loop-v-smaller-then-next_root-node c =
+    omega (arith, c.loop-v-test.true)
+
+pub loop-v-preserved-then-next_root-node : goal.loop-v-preserved-then-next_root-node
+loop-v-preserved-then-next_root-node c =
+    let due = due_of c.args.terms in
+    let s = c.args.sheet.now in
+    let l = c.loop-v.invariant.left in
+    record {
+      most = omega (arith, c.loop-v-test.true);
+      left = left_past due s l c.next_root.ensures c.if-next_root-node.true;
+      filled =
+          luts_put (lut_room_lem (c.loop-v.v + 1) (omega (arith, c.loop-v-test.true)) c.requires.lut_room)
+          c.loop-v.invariant.filled
+          (put_as (none_here due s l c.next_root.ensures c.if-next_root-node.true)
+          c.put_no_lut.ensures);
+    }
+
+pub put_lut-requires : goal.put_lut-requires
+put_lut-requires c =
+    let due = due_of c.args.terms in
+    let s = c.args.sheet.now in
+    let l = c.loop-v.invariant.left in record {
+      lut_ready = record {
+        narrow = c.requires.loadable.narrow;
+        whole =
+            lut_whole due s l.least c.loop-v.turn.at
+            (ruled_here due s l c.next_root.ensures (omega (arith, c.if-next_root-node.false))
+            c.loop-v-test.true);
+      };
+      lut_room = luts_room (c.loop-v.v + 1) (omega (arith, c.loop-v-test.true)) c.requires.lut_room
+          c.loop-v.invariant.filled;
+    }
+
+pub field_end-requires : goal.field_end-requires
+field_end-requires c =
+    let due = due_of c.args.terms in
+    let s = c.args.sheet.now in
+    let l = c.loop-v.invariant.left in
+    lut_end due s l.least c.loop-v.turn.at
+    (ruled_here due s l c.next_root.ensures (omega (arith, c.if-next_root-node.false)) c.loop-v-test.true)
+
+pub overflow_sub-turn : goal.overflow_sub-turn
+overflow_sub-turn c =
+    let due = due_of c.args.terms in
+    let s = c.args.sheet.now in
+    let l = c.loop-v.invariant.left in
+    omega (
+      arith,
+      some_left due s l c.next_root.ensures (omega (arith, c.if-next_root-node.false)) c.loop-v-test.true,
+    )
+
+pub loop-v-smaller : goal.loop-v-smaller
+loop-v-smaller c =
+    omega (arith, c.loop-v-test.true)
+
+pub loop-v-preserved : goal.loop-v-preserved
+loop-v-preserved c =
+    let due = due_of c.args.terms in
+    let s = c.args.sheet.now in
+    let l = c.loop-v.invariant.left in
+    record {
+      most = omega (arith, c.loop-v-test.true);
+      left =
+          left_behind due s l c.next_root.ensures (omega (arith, c.if-next_root-node.false))
+          c.loop-v-test.true c.field_end.ensures;
+      filled =
+          luts_put (lut_room_lem (c.loop-v.v + 1) (omega (arith, c.loop-v-test.true)) c.requires.lut_room)
+          c.loop-v.invariant.filled
+          (put_as
+          (lut_here due s l c.next_root.ensures (omega (arith, c.if-next_root-node.false)) c.loop-v-test.true)
+          c.put_lut.ensures);
+    }
+
+pub shape_of-luts : goal.shape_of-luts
+shape_of-luts c = c.loop-v.invariant.filled.luts.as_long
+
+pub shape_of-cuts : goal.shape_of-cuts
+shape_of-cuts c = c.loop-v.invariant.filled.cuts.as_long
+
+pub shape_of-tables : goal.shape_of-tables
+shape_of-tables c = c.loop-v.invariant.filled.tables.as_long
+
+pub returns : goal.returns
+returns c = luts_to (omega (arith, c.loop-v.invariant.most)) c.loop-v.invariant.filled

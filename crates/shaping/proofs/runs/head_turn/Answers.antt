@@ -1,0 +1,34 @@
+-- `head_turn` meets its contract: the head's ruling, and what is due behind a sound head.
+use mathlib.Core.Path.{sym, ◌∙◌}
+use native.Mathlib.Omega.{arith}
+use Rattle.shaping.specs.Terms.{due_of}
+use Rattle.shaping.proofs.FieldRuns.{head_inside, head_stop, head_next}
+use Rattle.shaping.proofs.runs.head_turn.Goals as goal
+
+pub head_ruling-ruled-requires : goal.head_ruling-ruled-requires
+head_ruling-ruled-requires c = record { narrow = c.requires.narrow; inputs_le_nodes = c.requires.inputs_le_nodes; field_value = c.requires.field_value }
+
+pub returns-in-Faulty : goal.returns-in-Faulty
+returns-in-Faulty c =
+    head_stop (due_of c.args.terms) c.args.sheet.now c.head_ruling-ruled.ensures
+    c.in-Faulty.is
+
+pub overflow_add-width : goal.overflow_add-width
+overflow_add-width c =
+    omega (arith, c.requires.narrow.few)
+
+pub small_at-luts-requires : goal.small_at-luts-requires
+small_at-luts-requires c =
+    record {
+      narrow = c.requires.narrow;
+      width_in_bounds = omega (
+        arith,
+        head_inside (due_of c.args.terms) c.args.sheet.now
+            (sym c.head_ruling-ruled.ensures ∙ c.in_default.is),
+      );
+    }
+
+pub returns : goal.returns
+returns c =
+    head_next (due_of c.args.terms) c.args.sheet.now c.head_ruling-ruled.ensures
+    c.in_default.is c.small_at-luts.ensures

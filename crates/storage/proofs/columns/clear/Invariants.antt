@@ -1,0 +1,12 @@
+-- `clear` meets its contract: the entries passed have the value.
+use Prim.Native.Nat.{◌≤◌, ◌-◌}
+use mathlib.Core.Path.{◌≡◌}
+use mathlib.Core.List.{◌++◌}
+use lib.ListN.{length, drop, replicate}
+use Rattle.storage.proofs.columns.clear.Given as goal
+
+abbrev pub invariant-loop-i : goal.invariant-loop-i
+invariant-loop-i l = (l.i ≤ l.size) × (length l.cells ≡ length l.initial.cells) × (l.cells ≡ replicate l.i 0 ++ drop l.i l.initial.cells)
+
+abbrev pub decreases-loop-i : goal.decreases-loop-i
+decreases-loop-i l = l.size - l.i

@@ -1,0 +1,13 @@
+-- `is_free` meets its contract: one answer a role.
+use Rattle.storage.proofs.InRoles.{area_role, other_role}
+use Rattle.storage.proofs.roles.is_free.Goals as goal
+
+pub returns-then-role-eq-AREA : goal.returns-then-role-eq-AREA
+returns-then-role-eq-AREA c =
+    let a = c.args in
+    area_role a.roles.now a.node.id c.if-role-eq-AREA.true
+
+pub returns : goal.returns
+returns c =
+    let a = c.args in
+    other_role a.roles.now a.node.id c.if-role-eq-AREA.false

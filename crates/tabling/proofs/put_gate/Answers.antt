@@ -1,0 +1,27 @@
+-- `put_gate` meets its contract: the table tells which of the two gates it is.
+use Rattle.tabling.proofs.Fields.{one_fanin, two_fanins, gate_room, gate_written}
+use Rattle.tabling.proofs.put_gate.Goals as goal
+
+pub put_unary-requires : goal.put_unary-requires
+put_unary-requires c =
+    let a = c.args in
+    gate_room (one_fanin a.left.id a.right.id a.rows c.if-rows-lt-UNARY_TABLES.true) a.table.now a.at
+    c.requires
+
+pub put_binary-requires : goal.put_binary-requires
+put_binary-requires c =
+    let a = c.args in
+    gate_room (two_fanins a.left.id a.right.id a.rows c.if-rows-lt-UNARY_TABLES.false) a.table.now a.at
+    c.requires
+
+pub returns-then-rows-lt-UNARY_TABLES : goal.returns-then-rows-lt-UNARY_TABLES
+returns-then-rows-lt-UNARY_TABLES c =
+    let a = c.args in
+    gate_written (one_fanin a.left.id a.right.id a.rows c.if-rows-lt-UNARY_TABLES.true)
+    c.put_unary.ensures
+
+pub returns-else-rows-lt-UNARY_TABLES : goal.returns-else-rows-lt-UNARY_TABLES
+returns-else-rows-lt-UNARY_TABLES c =
+    let a = c.args in
+    gate_written (two_fanins a.left.id a.right.id a.rows c.if-rows-lt-UNARY_TABLES.false)
+    c.put_binary.ensures

@@ -1,0 +1,55 @@
+-- `is_cut` meets its contract: each test that fails names a part of a cut that does not hold.
+use native.Mathlib.Omega.{arith}
+use Rattle.storage.proofs.Drawings.{drawn_span}
+use Rattle.storage.proofs.InMarks.{tells_no}
+use Rattle.walking.proofs.WalkLoops.{cut_some, cut_met, cut_stops, cut_whole}
+use Rattle.walking.proofs.is_cut.Goals as goal
+
+pub returns-then-size-eq0 : goal.returns-then-size-eq0
+returns-then-size-eq0 c =
+    let made = c.walk.ensures in
+    record { reply = tells_no (λ cut. omega (arith, cut_some c.requires made cut, c.if-size-eq0.true)); walk = made }
+
+pub returns-then-size-numbers : goal.returns-then-size-numbers
+returns-then-size-numbers c =
+    let made = c.walk.ensures in
+    record { reply = tells_no (λ cut. omega (arith, cut_some c.requires made cut, c.if-size-numbers.true)); walk = made }
+
+pub returns-then-not-is_rising : goal.returns-then-not-is_rising
+returns-then-not-is_rising c =
+    let falls = c.is_rising.ensures.no c.if-not-is_rising.true in
+    record { reply = tells_no (λ cut. falls cut.rising); walk = c.walk.ensures }
+
+pub returns-then-not-leaves_met : goal.returns-then-not-leaves_met
+returns-then-not-leaves_met c =
+    let made = c.walk.ensures in
+    let unmet = c.leaves_met.ensures.no c.if-not-leaves_met.true in
+    record { reply = tells_no (λ cut. unmet (cut_met c.requires made cut)); walk = made }
+
+pub inputs_stop-requires : goal.inputs_stop-requires
+inputs_stop-requires c =
+    let p = c.requires in
+    let span = drawn_span p.drawing.drawn in
+    record {
+      leaves_in_bounds = p.leaves_long;
+      inputs_in_bounds = omega (arith, p.roles_long, c.walk.ensures.rest.size);
+      inputs_bound = omega (arith, p.drawing.small);
+    }
+
+pub returns : goal.returns
+returns c =
+    let p = c.requires in
+    let made = c.walk.ensures in
+    let rising = c.is_rising.ensures.yes c.if-not-is_rising.false in
+    let met = c.leaves_met.ensures.yes c.if-not-leaves_met.false in
+    let stop = c.inputs_stop.ensures in
+    record {
+      reply = record {
+        yes =
+            λ e.
+            cut_whole p made (omega (arith, c.if-size-eq0.false)) (omega (arith, c.if-size-numbers.false)) rising met
+            (stop.yes e);
+        no = λ e cut. stop.no e (cut_stops p made cut);
+      };
+      walk = made;
+    }

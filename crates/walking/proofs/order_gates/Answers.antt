@@ -1,0 +1,29 @@
+-- `order_gates` meets its contract: by what the sweeps and the search leave.
+use Rattle.storage.proofs.Drawings.{drawn_span}
+use Rattle.walking.proofs.Fills.{start_listing}
+use Rattle.walking.proofs.Outcomes.{made_whole, made_loop}
+use Rattle.walking.proofs.order_gates.Goals as goal
+
+pub overflow_sub-gates : goal.overflow_sub-gates
+overflow_sub-gates c =
+    drawn_span c.requires.drawn
+
+pub start-requires : goal.start-requires
+start-requires c =
+    record { inputs_le_nodes = drawn_span c.requires.drawn; nodes_in_bounds = c.requires.marks_long }
+
+pub sweep_all-requires : goal.sweep_all-requires
+sweep_all-requires c =
+    rw c.start.ensures (start_listing c.requires)
+
+pub returns-then-sweep_all-gates : goal.returns-then-sweep_all-gates
+returns-then-sweep_all-gates c =
+    made_whole c.requires c.start.ensures c.sweep_all.ensures c.if-sweep_all-gates.true
+    c.clear.ensures
+
+pub returns : goal.returns
+returns c =
+    let swept = c.sweep_all.ensures in
+    let found = c.lowest_loop-found.ensures in
+    made_loop c.requires c.start.ensures swept c.if-sweep_all-gates.false found
+    c.clear-2.ensures c.clear-3.ensures

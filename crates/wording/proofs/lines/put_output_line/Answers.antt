@@ -1,0 +1,27 @@
+-- `put_output_line` meets its contract.
+use native.Mathlib.Omega.{arith}
+use lib.ListN.{length-append}
+use Rattle.wording.specs.paper.Text.{output_line}
+use Rattle.wording.proofs.Puts.{put_then}
+use Rattle.wording.proofs.lines.put_output_line.Goals as goal
+
+pub put_named-at-requires : goal.put_named-at-requires
+unfolding output_line
+put_named-at-requires c =
+    omega (arith, simp length-append at c.requires)
+
+pub put_named-at-requires-2 : goal.put_named-at-requires-2
+unfolding output_line
+put_named-at-requires-2 c =
+    omega (arith, simp length-append at c.requires)
+
+pub end_line-requires : goal.end_line-requires
+unfolding output_line
+end_line-requires c =
+    omega (arith, simp length-append at c.requires)
+
+pub returns : goal.returns
+unfolding output_line
+returns c =
+    put_then (put_then c.put_named-at.ensures c.put_named-at-2.ensures)
+    c.end_line.ensures
