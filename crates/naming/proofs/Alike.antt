@@ -4,11 +4,12 @@ use native.Mathlib.Numerals.{add-one}
 use native.Mathlib.Decide.{dec_lt}
 use native.Mathlib.Omega.{arith}
 use mathlib.Core.Path.{◌≡◌, refl, ap, sym, subst, ◌∙◌}
-use mathlib.Core.Bool.{Bool, true, false, cond, not, ◌&&◌}
+use mathlib.Core.Bool.{Bool, true, false, cond, not, ◌&&◌, true≢false}
 use mathlib.Core.List.{List, [], ◌∷◌}
+use lib.Dec.{eqb}
 use lib.ListN.{length, drop, drop_of_length-le}
 use lib.Seq.{drop-cons}
-use borrow.Author.Tests.{eq-eqb, ne_eqb}
+use borrow.Author.Tests.{eq-eqb, eqb-true, ne_eqb}
 use Rattle.storage.proofs.Entries.{false_not_true}
 use Rattle.grammar.specs.paper.Text.{byte_at, is_word_byte, word_of, word_at, same_word}
 use Rattle.grammar.proofs.Bytes.{word_byte_within, is_same_word}
@@ -16,6 +17,21 @@ use Rattle.grammar.proofs.Bytes.{word_byte_within, is_same_word}
 -- two words that the test tells apart
 pub same_fails : {v w : List ℕ} → same_word v w ≡ false → v ≡ w → ⊥
 same_fails {v} {w} f e = false_not_true f (is_same_word v w e)
+
+-- the test takes two words in either order
+eqb_turned : (b c : ℕ) → eqb b c ≡ eqb c b
+eqb_turned b c = by_test (eqb b c) refl
+  where
+    by_test : (t : Bool) → eqb b c ≡ t → eqb b c ≡ eqb c b
+    by_test true e = e ∙ sym (eq-eqb c b (sym (eqb-true b c e)))
+    by_test false e = e ∙ sym (ne_eqb c b (λ same. true≢false (sym (eq-eqb b c (sym same)) ∙ e)))
+
+pub same_turned : (v w : List ℕ) → same_word v w ≡ same_word w v
+unfolding same_word
+same_turned [] [] = refl
+same_turned [] (c ∷ cs) = refl
+same_turned (b ∷ bs) [] = refl
+same_turned (b ∷ bs) (c ∷ cs) = ap (λ (t : Bool). t && same_word bs cs) (eqb_turned b c) ∙ ap (λ (t : Bool). eqb c b && t) (same_turned bs cs)
 
 -- The word at a place
 
@@ -65,3 +81,25 @@ module _ (s : List ℕ) where
       by_test : (t : Bool) → is_word_byte (byte_at s y) ≡ t → same_word [] (word_at s y) ≡ not (is_word_byte (byte_at s y))
       by_test true f = ap (same_word []) (word_more y f) ∙ sym (ap not f)
       by_test false f = ap (same_word []) (word_none y f) ∙ sym (ap not f)
+
+  -- How long a word is tells where it ends.
+
+  pub longer : (x : ℕ) → is_word_byte (byte_at s x) ≡ true → length (word_at s x) ≡ suc (length (word_at s (x + 1)))
+  longer x e = ap length (word_more x e)
+
+  pub over : (x : ℕ) → is_word_byte (byte_at s x) ≡ false → length (word_at s x) ≡ 0
+  over x e = ap length (word_none x e)
+
+  pub still_in : (x : ℕ) → 0 < length (word_at s x) → is_word_byte (byte_at s x) ≡ true
+  still_in x low = by_test (is_word_byte (byte_at s x)) refl
+    where
+      by_test : (t : Bool) → is_word_byte (byte_at s x) ≡ t → is_word_byte (byte_at s x) ≡ true
+      by_test true e = e
+      by_test false e = absurd (omega (arith, low, over x e))
+
+  pub behind : (x : ℕ) → length (word_at s x) ≡ 0 → is_word_byte (byte_at s x) ≡ false
+  behind x none = by_test (is_word_byte (byte_at s x)) refl
+    where
+      by_test : (t : Bool) → is_word_byte (byte_at s x) ≡ t → is_word_byte (byte_at s x) ≡ false
+      by_test true e = absurd (omega (arith, none, longer x e))
+      by_test false e = e

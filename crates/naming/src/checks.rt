@@ -6,7 +6,7 @@ ghost use Rattle.naming.specs.Wrongs.{LeastOf, earlier_of, Some, Among, AgainAt,
 
 use crate::Naming;
 use crate::arrays::{left_at, place_at, right_at};
-use crate::words::same_word;
+use crate::words::{end_of_word, is_word_at};
 use spelling::MOST_TEXT;
 
 // The lesser of two answers.
@@ -30,9 +30,10 @@ fn is_among(text: &[u8], names: &[u16], many: usize, place: usize) -> bool
     requires { 2 * many ≤ length names.now }
     ensures { Tells (Among text.now names.now many (word_at text.now place)) result }
 {
+    let end = end_of_word(text, place);
     let mut i: usize = 0;
     while i < many {
-        if same_word(text, place_at(names, i), place) {
+        if is_word_at(text, place, end, place_at(names, i)) {
             return true;
         }
         i += 1;

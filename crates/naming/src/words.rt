@@ -1,5 +1,5 @@
 // Words in a text, byte for byte.
-ghost use Rattle.std.specs.Prelude.{◌≡◌};
+ghost use Rattle.std.specs.Prelude.{◌≡◌, ◌+◌, length};
 ghost use Rattle.grammar.specs.paper.Text.{byte_at, is_word_byte, word_at, same_word};
 
 use spelling::{byte_at, is_word_byte};
@@ -11,13 +11,25 @@ fn in_word(text: &[u8], at: usize) -> bool
     is_word_byte(byte_at(text, at))
 }
 
-// Stops at the first difference.
-pub fn same_word(text: &[u8], a: usize, b: usize) -> bool
+// Where the word at a place ends.
+pub fn end_of_word(text: &[u8], at: usize) -> usize
+    ensures { result ≡ at + length (word_at text.now at) }
+{
+    let mut x = at;
+    while in_word(text, x) {
+        x += 1;
+    }
+    x
+}
+
+// Is the word from `a` to `end` the one at `b`? Stops at the first difference. Who compares a word with many finds its end once.
+pub fn is_word_at(text: &[u8], a: usize, end: usize, b: usize) -> bool
+    requires { end ≡ a + length (word_at text.now a) }
     ensures { result ≡ same_word (word_at text.now a) (word_at text.now b) }
 {
     let mut x = a;
     let mut y = b;
-    while in_word(text, x) {
+    while x < end {
         if byte_at(text, x) != byte_at(text, y) {
             return false;
         }
@@ -25,4 +37,10 @@ pub fn same_word(text: &[u8], a: usize, b: usize) -> bool
         y += 1;
     }
     !in_word(text, y)
+}
+
+pub fn same_word(text: &[u8], a: usize, b: usize) -> bool
+    ensures { result ≡ same_word (word_at text.now a) (word_at text.now b) }
+{
+    is_word_at(text, a, end_of_word(text, a), b)
 }

@@ -6,21 +6,21 @@ use borrow.Author.Count.{below_more}
 use Rattle.grammar.specs.paper.Text.{word_at, same_word}
 use Rattle.naming.specs.Stored.{place_in}
 use Rattle.grammar.proofs.Bytes.{same_word_is}
-use Rattle.naming.proofs.Alike.{same_fails}
+use Rattle.naming.proofs.Alike.{same_fails, same_turned}
 use Rattle.naming.proofs.checks.is_among.Goals as goal
 
 pub loop-i-init : goal.loop-i-init
 loop-i-init c = (omega arith, λ k low. absurd (omega arith))
 
-pub returns-then-same_word : goal.returns-then-same_word
-returns-then-same_word c =
+pub returns-then-is_word_at : goal.returns-then-is_word_at
+returns-then-is_word_at c =
     let a = c.args in
     let s = a.text.now in
     let i = c.loop-i.i in
     let here : place_in a.names.now i ≡ c.place_at.result =
     sym c.place_at.ensures in
     let test : same_word (word_at s c.place_at.result) (word_at s a.place) ≡ true =
-    sym c.same_word.ensures ∙ c.if-same_word.true in
+    same_turned (word_at s c.place_at.result) (word_at s a.place) ∙ sym c.is_word_at.ensures ∙ c.if-is_word_at.true in
     record {
       yes = λ e. record {
         index = i;
@@ -38,7 +38,7 @@ loop-i-preserved c =
     let here : c.place_at.result ≡ place_in a.names.now c.loop-i.i =
     c.place_at.ensures in
     let test : same_word (word_at s c.place_at.result) (word_at s a.place) ≡ false =
-    sym c.same_word.ensures ∙ c.if-same_word.false in
+    same_turned (word_at s c.place_at.result) (word_at s a.place) ∙ sym c.is_word_at.ensures ∙ c.if-is_word_at.false in
     (omega arith, below_more _ _ c.loop-i.invariant.1 (λ same. same_fails test (ap (word_at s) here ∙ same)))
 
 pub returns : goal.returns
