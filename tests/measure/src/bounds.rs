@@ -27,8 +27,8 @@ const MOST_A_PAIR: u64 = 320;
 /// 5.6 million pairs of bytes in them.
 const MOST_A_TEXT: u64 = 340_000_000;
 const MOST_TIME_A_TEXT: u64 = 20_000_000;
-/// What else runs on the machine's processors can double a time, for seconds. So one above the bound
-/// is taken again, a moment later, and the least counts.
+/// A neighbour on the machine's processors can double a time, for seconds. So one above the bound is
+/// taken again, a moment later, and the least counts.
 const TRIES: usize = 20;
 const MOMENT: Duration = Duration::from_millis(500);
 
@@ -73,13 +73,18 @@ fn check_texts(meter: Meter) -> Result<(), String> {
 }
 
 fn least_time(text: &Named) -> Result<u64, String> {
-    let mut least = u64::MAX;
-    for _ in 0..TRIES {
-        least = least.min(nanoseconds(&[EQUATIONS], text)?[0]);
+    least(MOMENT, || Ok(nanoseconds(&[EQUATIONS], text)?[0]))
+}
+
+/// The least of the times taken, up to the first that keeps the bound.
+fn least(pause: Duration, mut take: impl FnMut() -> Result<u64, String>) -> Result<u64, String> {
+    let mut least = take()?;
+    for _ in 1..TRIES {
         if least <= MOST_TIME_A_TEXT {
             break;
         }
-        thread::sleep(MOMENT);
+        thread::sleep(pause);
+        least = least.min(take()?);
     }
     Ok(least)
 }
@@ -134,6 +139,23 @@ mod tests {
         assert_eq!(check_text(text, [MOST_A_TEXT, MOST_TIME_A_TEXT]), Ok(()));
         assert!(check_text(text, [MOST_A_TEXT + 1, 0]).is_err());
         assert!(check_text(text, [0, MOST_TIME_A_TEXT + 1]).is_err());
+    }
+
+    #[test]
+    fn a_time_above_the_bound_is_taken_again() {
+        let mut taken = 0;
+        let mut least = |times: &[u64]| {
+            taken = 0;
+            let found = super::least(Duration::ZERO, || {
+                taken += 1;
+                Ok(times[(taken - 1) % times.len()])
+            });
+            (found, taken)
+        };
+        let most = MOST_TIME_A_TEXT;
+        assert_eq!(least(&[most, 0]), (Ok(most), 1));
+        assert_eq!(least(&[most + 2, most + 1, most]), (Ok(most), 3));
+        assert_eq!(least(&[most + 2, most + 1]), (Ok(most + 1), TRIES));
     }
 
     #[test]
