@@ -7,7 +7,7 @@ pub returns-then-luts-v-ne1 : goal.returns-then-luts-v-ne1
 returns-then-luts-v-ne1 c =
     let a = c.args in
     no_table a.numbers.inputs a.numbers.nodes a.fanins.now a.rows.now a.cuts.now
-    a.luts.now a.gate.id a.words.now c.if-luts-v-ne1.true
+    a.luts.now a.gate.id a.words.now (λ root. c.if-luts-v-ne1.true (omega (arith, root)))
 
 pub cut_size-requires : goal.cut_size-requires
 cut_size-requires c =
@@ -18,9 +18,9 @@ cut_size-requires c =
 pub cone_table-requires : goal.cone_table-requires
 cone_table-requires c =
     let pre = c.requires in
-    cone_asked pre c.if-luts-v-ne1.false c.cut_size.ensures
+    cone_asked pre (omega (arith, c.if-luts-v-ne1.false)) c.cut_size.ensures
 
 pub returns : goal.returns
 returns c =
     let pre = c.requires in
-    cone_answered pre c.if-luts-v-ne1.false c.cut_size.ensures c.cone_table.ensures
+    cone_answered pre (omega (arith, c.if-luts-v-ne1.false)) c.cut_size.ensures c.cone_table.ensures

@@ -17,7 +17,7 @@ returns-then-byte_at c =
     sym
     (l.invariant.0
     ∙ alike_differ c.args.text.now l.x l.y word
-    (λ e. c.if-byte_at.true (c.byte_at.ensures ∙ e ∙ sym c.byte_at-in-loop-x.ensures)))
+    (λ e. c.if-byte_at.true (omega (arith, e, c.byte_at.ensures, c.byte_at-in-loop-x.ensures))))
 
 pub overflow_add-x : goal.overflow_add-x
 overflow_add-x c =
