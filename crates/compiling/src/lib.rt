@@ -12,7 +12,7 @@ ghost use Rattle.compiling.specs.Stages.{Scanned, NamesRight, numbers_right};
 use crate::tables::{store_table, write_table};
 use drawing::limits::{LEAST_K, MOST_INPUTS, MOST_K, MOST_NODES, MOST_OUTPUTS};
 use naming::{Naming, first_misnamed};
-use scanning::{Counts, Scan, read_text};
+use scanning::{Counts, read_text};
 use spelling::MOST_TEXT;
 use storage::{CutSize, Node};
 
@@ -111,9 +111,8 @@ pub fn compile(text: &[u8], k: u64, table: &mut [u8]) -> Reply
     }
     let mut gates = [0u16; GATE_PLACES];
     let mut names = [0u16; NAME_PLACES];
-    let scan = read_text(text, &mut gates, &mut names);
-    match scan {
-        Scan::Stopped(place) => Reply::Text(place),
-        Scan::Read(counts) => compile_scanned(text, k, &gates, &names, counts, table),
+    match read_text(text, &mut gates, &mut names) {
+        Err(stopped) => Reply::Text(stopped.place),
+        Ok(counts) => compile_scanned(text, k, &gates, &names, counts, table),
     }
 }

@@ -14,8 +14,8 @@ use Rattle.grammar.proofs.Moves.{run_opening}
 use Rattle.grammar.proofs.Stops.{halts_then}
 use Rattle.spelling.specs.Spelling.{Skipped, Unnamed}
 use Rattle.scanning.specs.declared.expressions.Piece.{Piece}
-use Rattle.scanning.specs.declared.expressions.Part.{Part}
-use Rattle.scanning.specs.declared.expressions.Part.TheVariants as part
+use Rattle.std.specs.Prelude.{Result, Ok, Err}
+use Rattle.spelling.specs.declared.Stopped.{Stopped}
 use Rattle.scanning.specs.declared.operands.Bangs.{Bangs}
 use Rattle.scanning.specs.Reading.{opened, Asked, Behind, Got, Stops, WholeExpression, Banged, BracketClosed, BracketOpen, Closed, NameTaken, NameMissing, NameRead, FactorAnswer, nots}
 use Rattle.scanning.proofs.Holding.{held_size, held_front, nots_size}
@@ -150,13 +150,13 @@ module _ {s : List ℕ} {n at : ℕ} {gates : List ℕ} {made : ℕ} (asked : As
               front = ap (take (3 * made)) unclosed.kept ∙ held_front got.holds;
             }
 
-        pub bracket_answer : (after : List ℕ) (r : Part) → Closed s bangs.count piece middle after r → FactorAnswer s n at gates made after r
-        bracket_answer after (part.Read r) closed = factor_bracketed closed
-        bracket_answer after (part.Stopped p) unclosed = bracket_stops unclosed
+        pub bracket_answer : (after : List ℕ) (r : Result Piece Stopped) → Closed s bangs.count piece middle after r → FactorAnswer s n at gates made after r
+        bracket_answer after (Ok r) closed = factor_bracketed closed
+        bracket_answer after (Err p) unclosed = bracket_stops unclosed
 
 -- a name, or none
 pub name_answer : {s : List ℕ} {n at : ℕ} {gates : List ℕ} {made : ℕ} → Asked s n at gates made → {bangs : Bangs} → Banged s at bangs →
-    (byte_at s bangs.next ≡ opening → ⊥) → (after : List ℕ) (r : Part) → NameRead s bangs.next bangs.count gates made after r →
+    (byte_at s bangs.next ≡ opening → ⊥) → (after : List ℕ) (r : Result Piece Stopped) → NameRead s bangs.next bangs.count gates made after r →
     FactorAnswer s n at gates made after r
-name_answer asked b no-opening after (part.Read r) taken = factor_named asked b taken
-name_answer asked b no-opening after (part.Stopped p) missing = factor_unnamed asked b no-opening missing
+name_answer asked b no-opening after (Ok r) taken = factor_named asked b taken
+name_answer asked b no-opening after (Err p) missing = factor_unnamed asked b no-opening missing

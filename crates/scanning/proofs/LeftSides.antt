@@ -17,9 +17,7 @@ use Rattle.grammar.proofs.Moves.{Place, Due, Ended, Word, run_word, run_name_bla
 use Rattle.grammar.proofs.Runs.{run_then}
 use Rattle.grammar.proofs.Stops.{between_lines_stuck, left_stuck}
 use Rattle.spelling.specs.Spelling.{Skipped, Named, Unnamed, Keyword}
-use Rattle.scanning.specs.declared.lefts.Left.{Left}
-use Rattle.scanning.specs.declared.lefts.Left.TheVariants as left
-use Rattle.scanning.specs.Equations.{Begins, EqualsHere, NoEquals, EqualsRead, LeftSide, OutHere, LeftRead}
+use Rattle.scanning.specs.Equations.{Begins, EqualsHere, NoEquals, LeftSide, OutHere}
 use Rattle.scanning.proofs.Entries.{named_onward}
 
 module _ {s : List ℕ} where
@@ -33,7 +31,7 @@ module _ {s : List ℕ} where
         solid = behind.ends;
       }
 
-  left_side : {at end start : ℕ} → Named s at end → EqualsHere s end start → LeftSide s at start
+  pub left_side : {at end start : ℕ} → Named s at end → EqualsHere s end start → LeftSide s at start
   left_side {at} {end} named here =
       let reached = run_name_blanks Due.between_lines named.name here.blanks in
       record {
@@ -45,7 +43,7 @@ module _ {s : List ℕ} where
       }
 
   -- behind a name no `=` stands
-  no_equals : {at end p : ℕ} → Named s at end → NoEquals s end p → Halts s State.between_lines at p
+  pub no_equals : {at end p : ℕ} → Named s at end → NoEquals s end p → Halts s State.between_lines at p
   unfolding move
   no_equals {at} {end} {p} named nothing = by_place (ℕ_discrete end p)
     where
@@ -74,11 +72,6 @@ module _ {s : List ℕ} where
             no_move = stuck;
             early = λ e. let z : ◌≡◌ {A = ℕ} 0 1 = cc in omega arith;
           }
-
-  pub left_read : {at end : ℕ} (r : Left) → Named s at end → EqualsRead s end r → LeftRead s at r
-  left_read (left.Equation start) named here = left_side named here
-  left_read (left.Out p) named nothing = absurd nothing
-  left_read (left.Stopped p) named nothing = no_equals named nothing
 
   keyword_word : {i j : ℕ} → Keyword s i j → Word s i j
   keyword_word k = record { some = k.some; few = k.few; letter = k.letter; each = k.each }

@@ -1,3 +1,4 @@
+pub mod Exits
 pub mod Holding
 pub mod Ends
 pub mod Bangs

@@ -22,8 +22,9 @@ use Rattle.scanning.specs.Reading.{Holds, Joined, Got, WholeExpression}
 use Rattle.scanning.specs.Promise.{Unread}
 use Rattle.scanning.proofs.Holding.{held_size}
 use Rattle.scanning.proofs.Ends.{sign_of}
-use Rattle.scanning.specs.declared.equations.Right.{Right}
-use Rattle.scanning.specs.declared.equations.Right.TheVariants as right
+use Rattle.std.specs.Prelude.{Result, Ok, Err}
+use Rattle.spelling.specs.declared.Stopped.{Stopped}
+use Rattle.scanning.specs.declared.equations.Moved.{Moved}
 use Rattle.scanning.specs.Equations.{RightAsked, EndAsked, Passed, EndRead, RightStopped, RightRead}
 
 -- the gate of an expression that has none
@@ -68,10 +69,10 @@ module _ {s : List ℕ} {at made : ℕ} {gates₀ gates₁ : List ℕ} {piece : 
         room = omega (arith, asked.room, held_size got.holds);
       }
 
-  pub right_read : (gates : List ℕ) (r : Right) → Got s (WholeExpression s most_brackets at) most_brackets at gates₀ made gates₁ piece →
+  pub right_read : (gates : List ℕ) (r : Result Moved Stopped) → Got s (WholeExpression s most_brackets at) most_brackets at gates₀ made gates₁ piece →
       EndRead s piece made gates₁ gates r → RightRead s at made gates₀ gates r
   unfolding behind_operand is_blank
-  right_read gates (right.Read moved) got end =
+  right_read gates (Ok moved) got end =
       let both = kept got.tree end.passed got.holds in
       let inside = sign_within s piece.next semicolon (omega arith) end.here in
       let sign = sign_of end.here end.skipped in
@@ -89,7 +90,7 @@ module _ {s : List ℕ} {at made : ℕ} {gates₀ gates₁ : List ℕ} {piece : 
             run_then got.behind.run
             (Runs.go inside (got.behind.next_move ∙ ap (behind_operand 0) end.here) (run_blanks Waits.between_lines sign.blanks));
       }
-  right_read gates (right.Stopped p) got end =
+  right_read gates (Err p) got end =
       subst (λ (q : ℕ). RightStopped s at gates₀ gates q) (sym end.place)
       (record {
         halts =

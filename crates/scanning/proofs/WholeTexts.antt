@@ -23,10 +23,10 @@ use Rattle.grammar.proofs.Words.{between_grows, between_none}
 use Rattle.grammar.proofs.Moves.{Waits, run_blanks}
 use Rattle.grammar.proofs.Runs.{run_then, run_one}
 use Rattle.grammar.proofs.Stops.{done_stuck, before_stuck, letter_i_stuck, halts_then, halts_at}
+use Rattle.std.specs.Prelude.{Result, Ok, Err}
+use Rattle.spelling.specs.declared.Stopped.{Stopped}
 use Rattle.spelling.specs.Spelling.{Skipped}
 use Rattle.scanning.specs.declared.Counts.{Counts}
-use Rattle.scanning.specs.declared.Scan.{Scan}
-use Rattle.scanning.specs.declared.Scan.TheVariants as scan
 use Rattle.scanning.specs.declared.equations.Stage.{Stage}
 use Rattle.scanning.specs.Lines.{which_of, start_of, behind_word, pairs_from, LineAsked, LineRead, LineStopped}
 use Rattle.scanning.specs.Equations.{EquationsAsked, EquationsOut}
@@ -67,12 +67,12 @@ stage_asked asked out =
       ends = out.out.ends;
     }
 
-pub equated : {s : List ℕ} {at inputs : ℕ} {gates₀ names₀ gates names₁ : List ℕ} {stage : Stage} (names : List ℕ) (r : Scan) → EquationsAsked s at gates₀ names₀ inputs →
+pub equated : {s : List ℕ} {at inputs : ℕ} {gates₀ names₀ gates names₁ : List ℕ} {stage : Stage} (names : List ℕ) (r : Result Counts Stopped) → EquationsAsked s at gates₀ names₀ inputs →
     EquationsOut s at gates₀ names₀ inputs gates names₁ stage.next stage.made stage.listed → OutputsOf s stage inputs names₁ names r →
     EquatedOf s at gates₀ names₀ inputs gates names r
 unfolding which_of start_of
-equated {names₁ = names₁} {stage = stage} names (scan.Read c) asked out outputs = record { names₁ = names₁; stage = stage; equated = out; outputs = outputs }
-equated names (scan.Stopped p) asked out stopped =
+equated {names₁ = names₁} {stage = stage} names (Ok c) asked out outputs = record { names₁ = names₁; stage = stage; equated = out; outputs = outputs }
+equated names (Err p) asked out stopped =
     record {
       halts = halts_then (run_then out.sofar.run out.out.run) stopped.halts;
       gates_size = sofar_gates_size asked out.sofar;
@@ -96,12 +96,12 @@ equations_asked {names₀ = names₀} asked line =
       empty = asked.gates_empty;
     }
 
-pub inputs_read : {s names₀ names₁ : List ℕ} {at next count : ℕ} (gates₀ gates names : List ℕ) (r : Scan) → LineRead s false at 0 names₀ names₁ next count →
+pub inputs_read : {s names₀ names₁ : List ℕ} {at next count : ℕ} (gates₀ gates names : List ℕ) (r : Result Counts Stopped) → LineRead s false at 0 names₀ names₁ next count →
     EquatedOf s next gates₀ names₁ count gates names r → InputsOf s at gates₀ names₀ gates names r
 unfolding which_of start_of end_of
-inputs_read {names₁ = names₁} {next = next} {count = count} gates₀ gates names (scan.Read c) line rest =
+inputs_read {names₁ = names₁} {next = next} {count = count} gates₀ gates names (Ok c) line rest =
     record { names₁ = names₁; next = next; count = count; line = line; rest = rest }
-inputs_read {names₀ = names₀} gates₀ gates names (scan.Stopped p) line stopped =
+inputs_read {names₀ = names₀} gates₀ gates names (Err p) line stopped =
     record {
       halts = halts_then line.run stopped.halts;
       gates_size = stopped.gates_size;
@@ -300,7 +300,7 @@ emptied {before} {after} used clears size empty =
     ∙ ext_get_or 0 (cleared (length used) used) before (cleared_size (length used) used (omega arith) ∙ size)
     (λ i low. cleared_low (length used) used (omega arith) i (omega (arith, cleared_size (length used) used (omega arith))) ∙ sym (empty i))
 
-pub whole_text : {s : List ℕ} {start : ℕ} (gates₀ names₀ gates names : List ℕ) (r : Scan) → Skipped s 0 start → byte_at s start ≡ 105 → byte_at s (start + 1) ≡ 110 →
+pub whole_text : {s : List ℕ} {start : ℕ} (gates₀ names₀ gates names : List ℕ) (r : Result Counts Stopped) → Skipped s 0 start → byte_at s start ≡ 105 → byte_at s (start + 1) ≡ 110 →
     InputsOf s (start + 1 + 1) gates₀ names₀ gates names r → TextOf s gates₀ names₀ gates names r
-whole_text gates₀ names₀ gates names (scan.Read c) skipped letter second read = whole_read skipped letter second read
-whole_text gates₀ names₀ gates names (scan.Stopped p) skipped letter second stopped = whole_stops skipped letter second stopped
+whole_text gates₀ names₀ gates names (Ok c) skipped letter second read = whole_read skipped letter second read
+whole_text gates₀ names₀ gates names (Err p) skipped letter second stopped = whole_stops skipped letter second stopped

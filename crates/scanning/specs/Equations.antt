@@ -1,22 +1,20 @@
 -- What reading equations promises. Where a reader stops, the machine halts.
-use Rattle.std.specs.Prelude.{ℕ, ◌+◌, ◌-◌, ◌*◌, ◌≤◌, ◌<◌, ◌≡◌, false, List, [], ◌∷◌, length, get_or}
+use Rattle.std.specs.Prelude.{ℕ, ◌+◌, ◌-◌, ◌*◌, ◌≤◌, ◌<◌, ◌≡◌, false, List, [], ◌∷◌, length, get_or, Result, Ok, Err}
 use Rattle.std.proofs.lemmas.List.Edits.{sets}
 use Rattle.grammar.specs.paper.Text.{byte_at, semicolon, equals, is_blank, is_word_byte, word_out, most_text, most_brackets}
 use Rattle.grammar.specs.paper.Grammar.{between, Tree, Equation, Blanks, Name, Sign, Expression, Equates, Equations}
 use Rattle.grammar.specs.paper.Gates.{equation_size, all_size, equation_nodes, pass_table}
 use Rattle.grammar.specs.Machine.{State, Runs, Halts}
 use Rattle.grammar.specs.Stored.{triple, equation_triples, all_triples, definition_pairs}
+use Rattle.spelling.specs.declared.Stopped.{Stopped}
 use Rattle.spelling.specs.Spelling.{Skipped}
 use Rattle.scanning.specs.declared.expressions.Piece.{Piece}
 use Rattle.scanning.specs.declared.lefts.Left.{Left}
 use Rattle.scanning.specs.declared.lefts.Left.TheVariants as left
 use Rattle.scanning.specs.declared.equations.Moved.{Moved}
-use Rattle.scanning.specs.declared.equations.Right.{Right}
-use Rattle.scanning.specs.declared.equations.Right.TheVariants as right
 use Rattle.scanning.specs.declared.equations.Turn.{Turn}
 use Rattle.scanning.specs.declared.equations.Turn.TheVariants as turn
-use Rattle.scanning.specs.declared.equations.Ended.{Ended}
-use Rattle.scanning.specs.declared.equations.Ended.TheVariants as ended
+use Rattle.scanning.specs.declared.equations.Stage.{Stage}
 
 module _ (s : List ℕ) where
   -- no blank stands there
@@ -37,10 +35,9 @@ module _ (s : List ℕ) where
     pub solid : is_blank (byte_at s p) ≡ false
     pub other : byte_at s p ≡ equals → ⊥
 
-  abbrev pub EqualsRead : (end : ℕ) → Left → Type 0
-  EqualsRead end (left.Equation start) = EqualsHere end start
-  EqualsRead end (left.Out p) = ⊥
-  EqualsRead end (left.Stopped p) = NoEquals end p
+  abbrev pub EqualsRead : (end : ℕ) → Result ℕ Stopped → Type 0
+  EqualsRead end (Ok start) = EqualsHere end start
+  EqualsRead end (Err stopped) = NoEquals end stopped.place
 
   -- a name and `=`: an expression is due
   pub record LeftSide (at start : ℕ) : Type 0 where
@@ -58,10 +55,10 @@ module _ (s : List ℕ) where
     pub within : p ≤ length s
     pub run : Runs s State.between_lines at (State.left word_out) p
 
-  abbrev pub LeftRead : (at : ℕ) → Left → Type 0
-  LeftRead at (left.Equation start) = LeftSide at start
-  LeftRead at (left.Out p) = OutHere at p
-  LeftRead at (left.Stopped p) = Halts s State.between_lines at p
+  abbrev pub LeftRead : (at : ℕ) → Result Left Stopped → Type 0
+  LeftRead at (Ok (left.Equation start)) = LeftSide at start
+  LeftRead at (Ok (left.Out p)) = OutHere at p
+  LeftRead at (Err stopped) = Halts s State.between_lines at stopped.place
 
 -- the gates' array is 0 from gate number `made` on
 abbrev pub Empty : (gates : List ℕ) (made : ℕ) → Type 0
@@ -96,9 +93,9 @@ pub record NoEnd (s : List ℕ) (piece : Piece) (gates₀ gates : List ℕ) (p :
   pub other : byte_at s p ≡ semicolon → ⊥
   pub kept : gates ≡ gates₀
 
-abbrev pub EndRead : (s : List ℕ) (piece : Piece) (made : ℕ) (gates₀ gates : List ℕ) → Right → Type 0
-EndRead s piece made gates₀ gates (right.Read moved) = EndHere s piece made gates₀ gates moved
-EndRead s piece made gates₀ gates (right.Stopped p) = NoEnd s piece gates₀ gates p
+abbrev pub EndRead : (s : List ℕ) (piece : Piece) (made : ℕ) (gates₀ gates : List ℕ) → Result Moved Stopped → Type 0
+EndRead s piece made gates₀ gates (Ok moved) = EndHere s piece made gates₀ gates moved
+EndRead s piece made gates₀ gates (Err stopped) = NoEnd s piece gates₀ gates stopped.place
 
 -- an expression and `;`: the gates of its equation are stored
 pub record RightSide (s : List ℕ) (at made : ℕ) (gates₀ gates : List ℕ) (next count : ℕ) : Type 0 where
@@ -118,9 +115,9 @@ pub record RightStopped (s : List ℕ) (at : ℕ) (gates₀ gates : List ℕ) (p
   pub halts : Halts s (State.wants 0) at p
   pub size : length gates ≡ length gates₀
 
-abbrev pub RightRead : (s : List ℕ) (at made : ℕ) (gates₀ gates : List ℕ) → Right → Type 0
-RightRead s at made gates₀ gates (right.Read moved) = RightSide s at made gates₀ gates moved.next moved.made
-RightRead s at made gates₀ gates (right.Stopped p) = RightStopped s at gates₀ gates p
+abbrev pub RightRead : (s : List ℕ) (at made : ℕ) (gates₀ gates : List ℕ) → Result Moved Stopped → Type 0
+RightRead s at made gates₀ gates (Ok moved) = RightSide s at made gates₀ gates moved.next moved.made
+RightRead s at made gates₀ gates (Err stopped) = RightStopped s at gates₀ gates stopped.place
 
 -- What is asked between two equations.
 pub record TurnAsked (s : List ℕ) (at : ℕ) (gates : List ℕ) (made : ℕ) (names : List ℕ) (listed inputs : ℕ) : Type 0 where
@@ -156,11 +153,11 @@ pub record LinesStopped (s : List ℕ) (at : ℕ) (gates₀ names₀ gates names
   pub gates_size : length gates ≡ length gates₀
   pub names_size : length names ≡ length names₀
 
-abbrev pub TurnRead : (s : List ℕ) (at : ℕ) (gates₀ : List ℕ) (made : ℕ) (names₀ : List ℕ) (listed inputs : ℕ) (gates names : List ℕ) → Turn → Type 0
-TurnRead s at gates₀ made names₀ listed inputs gates names (turn.Equation moved) =
+abbrev pub TurnRead : (s : List ℕ) (at : ℕ) (gates₀ : List ℕ) (made : ℕ) (names₀ : List ℕ) (listed inputs : ℕ) (gates names : List ℕ) → Result Turn Stopped → Type 0
+TurnRead s at gates₀ made names₀ listed inputs gates names (Ok (turn.Equation moved)) =
     EquationHere s at gates₀ made names₀ listed inputs gates names moved.next moved.made
-TurnRead s at gates₀ made names₀ listed inputs gates names (turn.Out p) = OutRead s at gates₀ names₀ gates names p
-TurnRead s at gates₀ made names₀ listed inputs gates names (turn.Stopped p) = LinesStopped s at gates₀ names₀ gates names p
+TurnRead s at gates₀ made names₀ listed inputs gates names (Ok (turn.Out p)) = OutRead s at gates₀ names₀ gates names p
+TurnRead s at gates₀ made names₀ listed inputs gates names (Err stopped) = LinesStopped s at gates₀ names₀ gates names stopped.place
 
 pub record EquationsAsked (s : List ℕ) (at : ℕ) (gates names : List ℕ) (inputs : ℕ) : Type 0 where
   pub short : length s ≤ most_text
@@ -189,7 +186,7 @@ pub record EquationsOut (s : List ℕ) (at : ℕ) (gates₀ names₀ : List ℕ)
   pub sofar : Sofar s at gates₀ names₀ inputs gates names last made listed
   pub out : OutHere s last p
 
-abbrev pub EquationsRead : (s : List ℕ) (at : ℕ) (gates₀ names₀ : List ℕ) (inputs : ℕ) (gates names : List ℕ) → Ended → Type 0
-EquationsRead s at gates₀ names₀ inputs gates names (ended.Out stage) =
+abbrev pub EquationsRead : (s : List ℕ) (at : ℕ) (gates₀ names₀ : List ℕ) (inputs : ℕ) (gates names : List ℕ) → Result Stage Stopped → Type 0
+EquationsRead s at gates₀ names₀ inputs gates names (Ok stage) =
     EquationsOut s at gates₀ names₀ inputs gates names stage.next stage.made stage.listed
-EquationsRead s at gates₀ names₀ inputs gates names (ended.Stopped p) = LinesStopped s at gates₀ names₀ gates names p
+EquationsRead s at gates₀ names₀ inputs gates names (Err stopped) = LinesStopped s at gates₀ names₀ gates names stopped.place

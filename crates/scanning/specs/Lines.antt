@@ -1,14 +1,14 @@
 -- What reading a line of names promises. Where a reader stops, the machine halts.
-use Rattle.std.specs.Prelude.{ℕ, suc, ◌+◌, ◌*◌, ◌≤◌, ◌≡◌, Bool, true, false, cond, ◌&&◌, List, [], ◌∷◌, length, ltb, eqb}
+use Rattle.std.specs.Prelude.{ℕ, suc, ◌+◌, ◌*◌, ◌≤◌, ◌≡◌, Bool, true, false, cond, ◌&&◌, List, [], ◌∷◌, length, ltb, eqb, Result, Ok, Err}
 use Rattle.std.proofs.lemmas.List.Edits.{sets}
 use Rattle.grammar.specs.paper.Text.{byte_at, semicolon, is_blank, word_out, most_text}
 use Rattle.grammar.specs.paper.Grammar.{Blanks, Gap, Name, Names, Sign}
 use Rattle.grammar.specs.Machine.{Which, State, Move, Runs, Halts, move, end_of, behind_listed}
+use Rattle.spelling.specs.declared.Stopped.{Stopped}
 use Rattle.spelling.specs.Spelling.{Named, Unnamed}
 use Rattle.scanning.specs.declared.names.Entry.{Entry}
 use Rattle.scanning.specs.declared.names.Entry.TheVariants as entry
-use Rattle.scanning.specs.declared.names.Line.{Line}
-use Rattle.scanning.specs.declared.names.Line.TheVariants as line
+use Rattle.scanning.specs.declared.names.Reached.{Reached}
 
 -- which line of names it is
 unfoldable pub which_of : (outs : Bool) → Which
@@ -46,10 +46,10 @@ module _ (s : List ℕ) where
     unnamed : (a : ℕ) → Gap s at a → is_blank (byte_at s a) ≡ false → (some && eqb (byte_at s a) semicolon) ≡ false → Unnamed s a p →
         NoEntry at some p
 
-  abbrev pub EntryRead : (at : ℕ) (some : Bool) → Entry → Type 0
-  EntryRead at some (entry.Name span) = NextName at span.from span.end
-  EntryRead at some (entry.End next) = LineEnd at some next
-  EntryRead at some (entry.Stopped p) = NoEntry at some p
+  abbrev pub EntryRead : (at : ℕ) (some : Bool) → Result Entry Stopped → Type 0
+  EntryRead at some (Ok (entry.Name span)) = NextName at span.from span.end
+  EntryRead at some (Ok (entry.End next)) = LineEnd at some next
+  EntryRead at some (Err stopped) = NoEntry at some stopped.place
 
   -- names so far, each behind blanks; maybe none
   pub data Listed : (i j : ℕ) → List ℕ → Type 0 where
@@ -100,6 +100,6 @@ pub record LineStopped (s : List ℕ) (outs : Bool) (at : ℕ) (names₀ names :
   pub halts : Halts s (start_of (which_of outs)) at p
   pub size : length names ≡ length names₀
 
-abbrev pub LineOf : (s : List ℕ) (outs : Bool) (at listed : ℕ) (names₀ names : List ℕ) → Line → Type 0
-LineOf s outs at listed names₀ names (line.Read reached) = LineRead s outs at listed names₀ names reached.next reached.listed
-LineOf s outs at listed names₀ names (line.Stopped p) = LineStopped s outs at names₀ names p
+abbrev pub LineOf : (s : List ℕ) (outs : Bool) (at listed : ℕ) (names₀ names : List ℕ) → Result Reached Stopped → Type 0
+LineOf s outs at listed names₀ names (Ok reached) = LineRead s outs at listed names₀ names reached.next reached.listed
+LineOf s outs at listed names₀ names (Err stopped) = LineStopped s outs at names₀ names stopped.place

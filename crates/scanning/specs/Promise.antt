@@ -1,9 +1,9 @@
 -- What the reader of an expression promises to others.
-use Rattle.std.specs.Prelude.{ℕ, ◌*◌, ◌≤◌, ◌≡◌, false, List, length, get_or}
+use Rattle.std.specs.Prelude.{ℕ, ◌*◌, ◌≤◌, ◌≡◌, false, List, length, get_or, Result, Ok, Err}
 use Rattle.grammar.specs.paper.Text.{byte_at, is_blank, most_text, most_brackets}
 use Rattle.grammar.specs.Machine.{State, Halts}
-use Rattle.scanning.specs.declared.expressions.Part.{Part}
-use Rattle.scanning.specs.declared.expressions.Part.TheVariants as part
+use Rattle.spelling.specs.declared.Stopped.{Stopped}
+use Rattle.scanning.specs.declared.expressions.Piece.{Piece}
 use Rattle.scanning.specs.Reading.{Got, WholeExpression}
 
 -- No blank stands at the place. There are no more gates than bytes before it, the array is 0 behind them, and has room for a gate a byte.
@@ -21,6 +21,6 @@ pub record Unread (s : List ℕ) (at : ℕ) (before after : List ℕ) (p : ℕ) 
   pub within : p ≤ length s
   pub kept : after ≡ before
 
-abbrev pub Reads : (s : List ℕ) (at : ℕ) (before : List ℕ) (made : ℕ) (after : List ℕ) → Part → Type 0
-Reads s at before made after (part.Read r) = Got s (WholeExpression s most_brackets at) most_brackets at before made after r
-Reads s at before made after (part.Stopped p) = Unread s at before after p
+abbrev pub Reads : (s : List ℕ) (at : ℕ) (before : List ℕ) (made : ℕ) (after : List ℕ) → Result Piece Stopped → Type 0
+Reads s at before made after (Ok r) = Got s (WholeExpression s most_brackets at) most_brackets at before made after r
+Reads s at before made after (Err stopped) = Unread s at before after stopped.place

@@ -1,16 +1,15 @@
 -- What the readers of an expression's parts ask and promise. What they store speaks of the tree that was read, and where they stop of a run of the
 -- machine up to there.
-use Rattle.std.specs.Prelude.{ℕ, zero, suc, ◌+◌, ◌-◌, ◌*◌, ◌≤◌, ◌<◌, ◌≡◌, false, List, ◌++◌, length, take, replicate}
+use Rattle.std.specs.Prelude.{ℕ, zero, suc, ◌+◌, ◌-◌, ◌*◌, ◌≤◌, ◌<◌, ◌≡◌, false, List, ◌++◌, length, take, replicate, Result, Ok, Err}
 use Rattle.std.proofs.lemmas.List.Edits.{sets}
 use Rattle.grammar.specs.paper.Text.{byte_at, bang, star, plus, closing, is_blank, most_text, most_brackets}
 use Rattle.grammar.specs.paper.Grammar.{Tree, Factor, Term, Expression, MoreFactors, MoreTerms}
 use Rattle.grammar.specs.paper.Gates.{size_of}
 use Rattle.grammar.specs.Machine.{State, move, behind_operand, Runs, Halts}
 use Rattle.grammar.specs.Stored.{operand_of, triple, triples}
+use Rattle.spelling.specs.declared.Stopped.{Stopped}
 use Rattle.spelling.specs.Spelling.{Skipped, Named, Unnamed}
 use Rattle.scanning.specs.declared.expressions.Piece.{Piece}
-use Rattle.scanning.specs.declared.expressions.Part.{Part}
-use Rattle.scanning.specs.declared.expressions.Part.TheVariants as part
 use Rattle.scanning.specs.declared.operands.Bangs.{Bangs}
 
 -- how many brackets are open where n more may be opened
@@ -56,9 +55,9 @@ pub record Stops (s : List ℕ) (n at : ℕ) (before : List ℕ) (made : ℕ) (a
   pub within : p ≤ length s
   pub front : take (3 * made) after ≡ take (3 * made) before
 
-abbrev pub Answer : (s : List ℕ) (D : ℕ → Tree → Type 0) (n at : ℕ) (before : List ℕ) (made : ℕ) (after : List ℕ) → Part → Type 0
-Answer s D n at before made after (part.Read r) = Got s D n at before made after r
-Answer s D n at before made after (part.Stopped p) = Stops s n at before made after p
+abbrev pub Answer : (s : List ℕ) (D : ℕ → Tree → Type 0) (n at : ℕ) (before : List ℕ) (made : ℕ) (after : List ℕ) → Result Piece Stopped → Type 0
+Answer s D n at before made after (Ok r) = Got s D n at before made after r
+Answer s D n at before made after (Err stopped) = Stops s n at before made after stopped.place
 
 -- a term with no `*` behind it, an expression with no `*` or `+` behind it
 pub record WholeTerm (s : List ℕ) (n i j : ℕ) (e : Tree) : Type 0 where
@@ -70,13 +69,13 @@ pub record WholeExpression (s : List ℕ) (n i j : ℕ) (e : Tree) : Type 0 wher
   pub no_star : byte_at s j ≡ star → ⊥
   pub no_plus : byte_at s j ≡ plus → ⊥
 
-abbrev pub FactorAnswer : (s : List ℕ) (n at : ℕ) (before : List ℕ) (made : ℕ) (after : List ℕ) → Part → Type 0
+abbrev pub FactorAnswer : (s : List ℕ) (n at : ℕ) (before : List ℕ) (made : ℕ) (after : List ℕ) → Result Piece Stopped → Type 0
 FactorAnswer s n at = Answer s (Factor s n at) n at
 
-abbrev pub TermAnswer : (s : List ℕ) (n at : ℕ) (before : List ℕ) (made : ℕ) (after : List ℕ) → Part → Type 0
+abbrev pub TermAnswer : (s : List ℕ) (n at : ℕ) (before : List ℕ) (made : ℕ) (after : List ℕ) → Result Piece Stopped → Type 0
 TermAnswer s n at = Answer s (WholeTerm s n at) n at
 
-abbrev pub ExpressionAnswer : (s : List ℕ) (n at : ℕ) (before : List ℕ) (made : ℕ) (after : List ℕ) → Part → Type 0
+abbrev pub ExpressionAnswer : (s : List ℕ) (n at : ℕ) (before : List ℕ) (made : ℕ) (after : List ℕ) → Result Piece Stopped → Type 0
 ExpressionAnswer s n at = Answer s (WholeExpression s n at) n at
 
 -- A term or an expression that may go on: whatever goes on behind e, from j, makes one with it.
@@ -128,9 +127,9 @@ pub record BracketOpen (s : List ℕ) (piece : Piece) (before after : List ℕ) 
   pub no_closing : byte_at s p ≡ closing → ⊥
   pub kept : after ≡ before
 
-abbrev pub Closed : (s : List ℕ) (count : ℕ) (piece : Piece) (before after : List ℕ) → Part → Type 0
-Closed s count piece before after (part.Read r) = BracketClosed s count piece before after r
-Closed s count piece before after (part.Stopped p) = BracketOpen s piece before after p
+abbrev pub Closed : (s : List ℕ) (count : ℕ) (piece : Piece) (before after : List ℕ) → Result Piece Stopped → Type 0
+Closed s count piece before after (Ok r) = BracketClosed s count piece before after r
+Closed s count piece before after (Err stopped) = BracketOpen s piece before after stopped.place
 
 -- a name, or none
 pub record NameTaken (s : List ℕ) (at count : ℕ) (before : List ℕ) (made : ℕ) (after : List ℕ) (r : Piece) : Type 0 where
@@ -143,6 +142,6 @@ pub record NameMissing (s : List ℕ) (at : ℕ) (before after : List ℕ) (p : 
   pub unnamed : Unnamed s at p
   pub kept : after ≡ before
 
-abbrev pub NameRead : (s : List ℕ) (at count : ℕ) (before : List ℕ) (made : ℕ) (after : List ℕ) → Part → Type 0
-NameRead s at count before made after (part.Read r) = NameTaken s at count before made after r
-NameRead s at count before made after (part.Stopped p) = NameMissing s at before after p
+abbrev pub NameRead : (s : List ℕ) (at count : ℕ) (before : List ℕ) (made : ℕ) (after : List ℕ) → Result Piece Stopped → Type 0
+NameRead s at count before made after (Ok r) = NameTaken s at count before made after r
+NameRead s at count before made after (Err stopped) = NameMissing s at before after stopped.place

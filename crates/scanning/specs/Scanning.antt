@@ -1,14 +1,13 @@
 -- What reading a text whole promises: the arrays hold what the text says; or the machine halts, and the arrays are as before.
-use Rattle.std.specs.Prelude.{ℕ, ◌+◌, ◌-◌, ◌*◌, ◌≤◌, ◌≡◌, true, false, List, length, get_or}
+use Rattle.std.specs.Prelude.{ℕ, ◌+◌, ◌-◌, ◌*◌, ◌≤◌, ◌≡◌, true, false, List, length, get_or, Result, Ok, Err}
 use Rattle.std.proofs.lemmas.List.Edits.{sets}
 use Rattle.grammar.specs.paper.Text.{byte_at, is_word_byte, most_text}
 use Rattle.grammar.specs.paper.Grammar.{System, WellFormed}
 use Rattle.grammar.specs.paper.Gates.{all_size}
 use Rattle.grammar.specs.Machine.{State, Halts}
 use Rattle.grammar.specs.Stored.{all_triples, name_pairs}
+use Rattle.spelling.specs.declared.Stopped.{Stopped}
 use Rattle.scanning.specs.declared.Counts.{Counts}
-use Rattle.scanning.specs.declared.Scan.{Scan}
-use Rattle.scanning.specs.declared.Scan.TheVariants as scan
 use Rattle.scanning.specs.declared.equations.Stage.{Stage}
 use Rattle.scanning.specs.Lines.{LineRead, LineStopped}
 use Rattle.scanning.specs.Equations.{Empty, EquationsOut, LinesStopped}
@@ -36,9 +35,9 @@ pub record OutputsRead (s : List ℕ) (stage : Stage) (inputs : ℕ) (names₀ n
   pub line : LineRead s true stage.next stage.listed names₀ names (length s) count
   pub counts : c ≡ record { inputs = inputs; definitions = stage.listed; gates = stage.made; outputs = count - stage.listed }
 
-abbrev pub OutputsOf : (s : List ℕ) (stage : Stage) (inputs : ℕ) (names₀ names : List ℕ) → Scan → Type 0
-OutputsOf s stage inputs names₀ names (scan.Read c) = OutputsRead s stage inputs names₀ names c
-OutputsOf s stage inputs names₀ names (scan.Stopped p) = LineStopped s true stage.next names₀ names p
+abbrev pub OutputsOf : (s : List ℕ) (stage : Stage) (inputs : ℕ) (names₀ names : List ℕ) → Result Counts Stopped → Type 0
+OutputsOf s stage inputs names₀ names (Ok c) = OutputsRead s stage inputs names₀ names c
+OutputsOf s stage inputs names₀ names (Err stopped) = LineStopped s true stage.next names₀ names stopped.place
 
 -- Behind the line of inputs.
 pub record EquatedRead (s : List ℕ) (at : ℕ) (gates₀ names₀ : List ℕ) (inputs : ℕ) (gates names : List ℕ) (c : Counts) : Type 0 where
@@ -47,9 +46,9 @@ pub record EquatedRead (s : List ℕ) (at : ℕ) (gates₀ names₀ : List ℕ) 
   pub equated : EquationsOut s at gates₀ names₀ inputs gates names₁ stage.next stage.made stage.listed
   pub outputs : OutputsRead s stage inputs names₁ names c
 
-abbrev pub EquatedOf : (s : List ℕ) (at : ℕ) (gates₀ names₀ : List ℕ) (inputs : ℕ) (gates names : List ℕ) → Scan → Type 0
-EquatedOf s at gates₀ names₀ inputs gates names (scan.Read c) = EquatedRead s at gates₀ names₀ inputs gates names c
-EquatedOf s at gates₀ names₀ inputs gates names (scan.Stopped p) = LinesStopped s at gates₀ names₀ gates names p
+abbrev pub EquatedOf : (s : List ℕ) (at : ℕ) (gates₀ names₀ : List ℕ) (inputs : ℕ) (gates names : List ℕ) → Result Counts Stopped → Type 0
+EquatedOf s at gates₀ names₀ inputs gates names (Ok c) = EquatedRead s at gates₀ names₀ inputs gates names c
+EquatedOf s at gates₀ names₀ inputs gates names (Err stopped) = LinesStopped s at gates₀ names₀ gates names stopped.place
 
 -- What is asked of the arrays: room, and zeros.
 pub record ScanAsked (s gates names : List ℕ) : Type 0 where
@@ -73,9 +72,9 @@ pub record InputsRead (s : List ℕ) (at : ℕ) (gates₀ names₀ gates names :
   pub line : LineRead s false at 0 names₀ names₁ next count
   pub rest : EquatedRead s next gates₀ names₁ count gates names c
 
-abbrev pub InputsOf : (s : List ℕ) (at : ℕ) (gates₀ names₀ gates names : List ℕ) → Scan → Type 0
-InputsOf s at gates₀ names₀ gates names (scan.Read c) = InputsRead s at gates₀ names₀ gates names c
-InputsOf s at gates₀ names₀ gates names (scan.Stopped p) = HaltsFrom s State.read_in at gates₀ names₀ gates names p
+abbrev pub InputsOf : (s : List ℕ) (at : ℕ) (gates₀ names₀ gates names : List ℕ) → Result Counts Stopped → Type 0
+InputsOf s at gates₀ names₀ gates names (Ok c) = InputsRead s at gates₀ names₀ gates names c
+InputsOf s at gates₀ names₀ gates names (Err stopped) = HaltsFrom s State.read_in at gates₀ names₀ gates names stopped.place
 
 -- A text in the grammar, with what it says in the arrays.
 pub record TextRead (s gates₀ names₀ gates names : List ℕ) (c : Counts) : Type 0 where
@@ -85,9 +84,9 @@ pub record TextRead (s gates₀ names₀ gates names : List ℕ) (c : Counts) : 
   pub gates_stored : gates ≡ sets gates₀ 0 (all_triples 0 says.equations)
   pub names_stored : names ≡ sets names₀ 0 (name_pairs says)
 
-abbrev pub TextOf : (s gates₀ names₀ gates names : List ℕ) → Scan → Type 0
-TextOf s gates₀ names₀ gates names (scan.Read c) = TextRead s gates₀ names₀ gates names c
-TextOf s gates₀ names₀ gates names (scan.Stopped p) = HaltsFrom s State.before 0 gates₀ names₀ gates names p
+abbrev pub TextOf : (s gates₀ names₀ gates names : List ℕ) → Result Counts Stopped → Type 0
+TextOf s gates₀ names₀ gates names (Ok c) = TextRead s gates₀ names₀ gates names c
+TextOf s gates₀ names₀ gates names (Err stopped) = HaltsFrom s State.before 0 gates₀ names₀ gates names stopped.place
 
 -- No text in the grammar: the machine halts at p, and the arrays are as before.
 pub record NoText (s gates₀ names₀ gates names : List ℕ) (p : ℕ) : Type 0 where
@@ -95,6 +94,6 @@ pub record NoText (s gates₀ names₀ gates names : List ℕ) (p : ℕ) : Type 
   pub gates_kept : gates ≡ gates₀
   pub names_kept : names ≡ names₀
 
-abbrev pub Scans : (s gates₀ names₀ gates names : List ℕ) → Scan → Type 0
-Scans s gates₀ names₀ gates names (scan.Read c) = TextRead s gates₀ names₀ gates names c
-Scans s gates₀ names₀ gates names (scan.Stopped p) = NoText s gates₀ names₀ gates names p
+abbrev pub Scans : (s gates₀ names₀ gates names : List ℕ) → Result Counts Stopped → Type 0
+Scans s gates₀ names₀ gates names (Ok c) = TextRead s gates₀ names₀ gates names c
+Scans s gates₀ names₀ gates names (Err stopped) = NoText s gates₀ names₀ gates names stopped.place

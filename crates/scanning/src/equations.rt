@@ -4,11 +4,11 @@ ghost use Rattle.std.proofs.lemmas.List.Edits.{sets};
 ghost use Rattle.grammar.specs.paper.Text.{most_text};
 ghost use Rattle.scanning.specs.Equations.{RightAsked, RightRead, EndAsked, EndRead, TurnAsked, TurnRead, EquationsAsked, EquationsRead};
 
-use crate::expressions::{Part, Piece, read_expression};
+use crate::expressions::{Piece, read_expression};
 use crate::gates::put_gate;
 use crate::lefts::{Left, read_left};
 use crate::names::SEMICOLON;
-use spelling::{byte_at, skip_blanks};
+use spelling::{Stopped, byte_at, skip_blanks};
 
 // The function table of a gate that passes its value on.
 const PASS: u16 = 2;
@@ -20,18 +20,11 @@ pub struct Moved {
     pub made: usize,
 }
 
-#[derive(Clone, Copy)]
-pub enum Right {
-    Read(Moved),
-    Stopped(usize),
-}
-
-// An equation was read; or `out`, with the place behind it; or nothing that can stand there.
+// An equation was read; or `out`, with the place behind it.
 #[derive(Clone, Copy)]
 pub enum Turn {
     Equation(Moved),
     Out(usize),
-    Stopped(usize),
 }
 
 // Where `out` ends, and how many gates and names there are.
@@ -42,46 +35,36 @@ pub struct Stage {
     pub listed: usize,
 }
 
-#[derive(Clone, Copy)]
-pub enum Ended {
-    Out(Stage),
-    Stopped(usize),
-}
-
 // `;` behind an expression, of which `made` gates were there before. One with no operator gets its gate.
-fn end_equation(text: &[u8], piece: Piece, gates: &mut [u16], made: usize) -> Right
+fn end_equation(text: &[u8], piece: Piece, gates: &mut [u16], made: usize) -> Result<Moved, Stopped>
     requires { EndAsked text.now piece gates.old made }
     ensures { EndRead text.now piece made gates.old gates.new result }
 {
     let stop = piece.next;
-    if byte_at(text, stop) == SEMICOLON {
-        let next = skip_blanks(text, stop + 1);
-        if piece.made == made {
-            let passed = put_gate(gates, PASS, piece.operand, piece);
-            return Right::Read(Moved {
-                next: next,
-                made: passed.made,
-            });
-        }
-        Right::Read(Moved {
-            next: next,
-            made: piece.made,
-        })
-    } else {
-        Right::Stopped(stop)
+    if byte_at(text, stop) != SEMICOLON {
+        return Err(Stopped { place: stop });
     }
+    let next = skip_blanks(text, stop + 1);
+    if piece.made == made {
+        let passed = put_gate(gates, PASS, piece.operand, piece);
+        return Ok(Moved {
+            next,
+            made: passed.made,
+        });
+    }
+    Ok(Moved {
+        next,
+        made: piece.made,
+    })
 }
 
 // An expression and the `;` behind it.
-fn read_right(text: &[u8], at: usize, gates: &mut [u16], made: usize) -> Right
+fn read_right(text: &[u8], at: usize, gates: &mut [u16], made: usize) -> Result<Moved, Stopped>
     requires { RightAsked text.now at gates.old made }
     ensures { RightRead text.now at made gates.old gates.new result }
 {
-    let part = read_expression(text, at, gates, made);
-    match part {
-        Part::Stopped(place) => Right::Stopped(place),
-        Part::Read(piece) => end_equation(text, piece, gates, made),
-    }
+    let piece = read_expression(text, at, gates, made)?;
+    end_equation(text, piece, gates, made)
 }
 
 // Keeps the name on an equation's left, and the node of its last gate.
@@ -103,23 +86,16 @@ fn read_equation(
     names: &mut [u16],
     listed: usize,
     inputs: usize,
-) -> Turn
+) -> Result<Turn, Stopped>
     requires { TurnAsked text.now at gates.old made names.old listed inputs }
     ensures { TurnRead text.now at gates.old made names.old listed inputs gates.new names.new result }
 {
-    let left = read_left(text, at);
-    match left {
-        Left::Out(place) => Turn::Out(place),
-        Left::Stopped(place) => Turn::Stopped(place),
+    match read_left(text, at)? {
+        Left::Out(place) => Ok(Turn::Out(place)),
         Left::Equation(start) => {
-            let right = read_right(text, start, gates, made);
-            match right {
-                Right::Stopped(place) => Turn::Stopped(place),
-                Right::Read(moved) => {
-                    keep_equation(names, listed, at, inputs + moved.made - 1);
-                    Turn::Equation(moved)
-                }
-            }
+            let moved = read_right(text, start, gates, made)?;
+            keep_equation(names, listed, at, inputs + moved.made - 1);
+            Ok(Turn::Equation(moved))
         }
     }
 }
@@ -131,7 +107,7 @@ pub fn read_equations(
     gates: &mut [u16],
     names: &mut [u16],
     inputs: usize,
-) -> Ended
+) -> Result<Stage, Stopped>
     requires { EquationsAsked text.now at gates.old names.old inputs }
     ensures { EquationsRead text.now at gates.old names.old inputs gates.new names.new result }
 {
@@ -139,21 +115,19 @@ pub fn read_equations(
     let mut made = 0;
     let mut listed = inputs;
     loop {
-        let turn = read_equation(text, next, gates, made, names, listed, inputs);
-        match turn {
+        match read_equation(text, next, gates, made, names, listed, inputs)? {
             Turn::Equation(moved) => {
                 next = moved.next;
                 made = moved.made;
                 listed += 1;
             }
             Turn::Out(place) => {
-                return Ended::Out(Stage {
+                return Ok(Stage {
                     next: place,
-                    made: made,
-                    listed: listed,
+                    made,
+                    listed,
                 });
             }
-            Turn::Stopped(place) => return Ended::Stopped(place),
         }
     }
 }

@@ -6,7 +6,7 @@ ghost use Rattle.scanning.specs.Promise.{Begins, Reads};
 pub use crate::gates::AND;
 use crate::gates::{OR, clear_from, put_gate};
 use crate::operands::{close_bracket, name_operand, skip_bangs};
-use spelling::{byte_at, skip_blanks};
+use spelling::{Stopped, byte_at, skip_blanks};
 
 const STAR: u8 = 42;
 
@@ -26,105 +26,84 @@ pub struct Piece {
     pub made: usize,
 }
 
-// An expression, or the place of the first byte that cannot stand there.
-#[derive(Clone, Copy)]
-pub enum Part {
-    Read(Piece),
-    Stopped(usize),
-}
-
 #[cycle(expression_factor_term)]
-fn expression(text: &[u8], at: usize, nesting: usize, gates: &mut [u16], made: usize) -> Part
+fn expression(
+    text: &[u8],
+    at: usize,
+    nesting: usize,
+    gates: &mut [u16],
+    made: usize,
+) -> Result<Piece, Stopped>
     requires { Asked text.now nesting at gates.old made }
     ensures { ExpressionAnswer text.now nesting at gates.old made gates.new result }
 {
-    let first = term(text, at, nesting, gates, made);
-    match first {
-        Part::Stopped(p) => Part::Stopped(p),
-        Part::Read(piece) => {
-            let mut left = piece;
-            let mut sign = byte_at(text, left.next);
-            while sign == PLUS {
-                let start = skip_blanks(text, left.next + 1);
-                let right = term(text, start, nesting, gates, left.made);
-                match right {
-                    Part::Stopped(p) => {
-                        return Part::Stopped(p);
-                    }
-                    Part::Read(read) => {
-                        left = put_gate(gates, OR, left.operand, read);
-                        sign = byte_at(text, left.next);
-                    }
-                }
-            }
-            Part::Read(left)
-        }
+    let mut left = term(text, at, nesting, gates, made)?;
+    while byte_at(text, left.next) == PLUS {
+        let start = skip_blanks(text, left.next + 1);
+        let right = term(text, start, nesting, gates, left.made)?;
+        left = put_gate(gates, OR, left.operand, right);
     }
+    Ok(left)
 }
 
 #[cycle(expression_factor_term)]
-fn term(text: &[u8], at: usize, nesting: usize, gates: &mut [u16], made: usize) -> Part
+fn term(
+    text: &[u8],
+    at: usize,
+    nesting: usize,
+    gates: &mut [u16],
+    made: usize,
+) -> Result<Piece, Stopped>
     requires { Asked text.now nesting at gates.old made }
     ensures { TermAnswer text.now nesting at gates.old made gates.new result }
 {
-    let first = factor(text, at, nesting, gates, made);
-    match first {
-        Part::Stopped(p) => Part::Stopped(p),
-        Part::Read(piece) => {
-            let mut left = piece;
-            let mut sign = byte_at(text, left.next);
-            while sign == STAR {
-                let start = skip_blanks(text, left.next + 1);
-                let right = factor(text, start, nesting, gates, left.made);
-                match right {
-                    Part::Stopped(p) => {
-                        return Part::Stopped(p);
-                    }
-                    Part::Read(read) => {
-                        left = put_gate(gates, AND, left.operand, read);
-                        sign = byte_at(text, left.next);
-                    }
-                }
-            }
-            Part::Read(left)
-        }
+    let mut left = factor(text, at, nesting, gates, made)?;
+    while byte_at(text, left.next) == STAR {
+        let start = skip_blanks(text, left.next + 1);
+        let right = factor(text, start, nesting, gates, left.made)?;
+        left = put_gate(gates, AND, left.operand, right);
     }
+    Ok(left)
 }
 
 #[cycle(expression_factor_term)]
-fn factor(text: &[u8], at: usize, nesting: usize, gates: &mut [u16], made: usize) -> Part
+fn factor(
+    text: &[u8],
+    at: usize,
+    nesting: usize,
+    gates: &mut [u16],
+    made: usize,
+) -> Result<Piece, Stopped>
     requires { Asked text.now nesting at gates.old made }
     ensures { FactorAnswer text.now nesting at gates.old made gates.new result }
 {
     let bangs = skip_bangs(text, at);
     let start = bangs.next;
     let count = bangs.count;
-    if byte_at(text, start) == OPENING {
-        if nesting == 0 {
-            return Part::Stopped(start);
-        }
-        let inside = skip_blanks(text, start + 1);
-        let inner = expression(text, inside, nesting - 1, gates, made);
-        match inner {
-            Part::Stopped(p) => Part::Stopped(p),
-            Part::Read(piece) => close_bracket(text, piece, count, gates),
-        }
-    } else {
-        name_operand(text, start, count, gates, made)
+    if byte_at(text, start) != OPENING {
+        return name_operand(text, start, count, gates, made);
     }
+    if nesting == 0 {
+        return Err(Stopped { place: start });
+    }
+    let inside = skip_blanks(text, start + 1);
+    let inner = expression(text, inside, nesting - 1, gates, made)?;
+    close_bracket(text, inner, count, gates)
 }
 
 // Where the expression stops, the gates are left as they were.
-pub fn read_expression(text: &[u8], at: usize, gates: &mut [u16], made: usize) -> Part
+pub fn read_expression(
+    text: &[u8],
+    at: usize,
+    gates: &mut [u16],
+    made: usize,
+) -> Result<Piece, Stopped>
     requires { Begins text.now at gates.old made }
     ensures { Reads text.now at gates.old made gates.new result }
 {
-    let part = expression(text, at, MOST_BRACKETS, gates, made);
-    match part {
-        Part::Read(piece) => Part::Read(piece),
-        Part::Stopped(p) => {
-            clear_from(gates, made);
-            Part::Stopped(p)
-        }
+    let whole = expression(text, at, MOST_BRACKETS, gates, made);
+    if whole.is_err() {
+        clear_from(gates, made);
     }
+    whole
 }

@@ -5,7 +5,6 @@ ghost use Rattle.scanning.specs.Reading.{Joined, Negated, cleared_from};
 
 use crate::expressions::Piece;
 use spelling::MOST_TEXT;
-use storage::columns;
 
 // Function tables: row r has bit i of r as the value of fanin i.
 const NOT: u16 = 1;
@@ -39,10 +38,8 @@ pub fn negate(gates: &mut [u16], piece: Piece, count: usize) -> Piece
     ensures { Negated count piece gates.old gates.new result }
 {
     let mut last = piece;
-    let mut i = 0;
-    while i < count {
+    for _ in 0..count {
         last = put_gate(gates, NOT, last.operand, last);
-        i += 1;
     }
     last
 }
@@ -52,7 +49,5 @@ pub fn clear_from(gates: &mut [u16], made: usize)
     requires { 3 * made ≤ length gates.old }
     ensures { gates.new ≡ cleared_from (3 * made) gates.old }
 {
-    let start = PLACES * made;
-    let size = gates.len() - start;
-    columns::clear(&mut gates[start..], size);
+    gates[PLACES * made..].fill(0);
 }

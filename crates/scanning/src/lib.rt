@@ -12,10 +12,9 @@ ghost use Rattle.std.specs.Prelude.{◌≤◌, length};
 ghost use Rattle.scanning.specs.Equations.{EquationsAsked};
 ghost use Rattle.scanning.specs.Scanning.{OutputsAsked, OutputsOf, EquatedOf, ScanAsked, InputsOf, TextOf, Scans};
 
-use crate::equations::{Ended, Stage, read_equations};
-use crate::names::{Line, read_names};
-use spelling::{byte_at, skip_blanks};
-use storage::columns;
+use crate::equations::{Stage, read_equations};
+use crate::names::read_names;
+use spelling::{Stopped, byte_at, skip_blanks};
 
 // The letters of `in`.
 const LETTER_I: u8 = 105;
@@ -31,90 +30,82 @@ pub struct Counts {
     pub outputs: usize,
 }
 
-// A text in the grammar; or the end of its longest beginning.
-#[derive(Clone, Copy)]
-pub enum Scan {
-    Read(Counts),
-    Stopped(usize),
-}
-
 // The line of outputs, from behind `out` to the end of the text.
-fn read_outputs(text: &[u8], stage: Stage, names: &mut [u16], inputs: usize) -> Scan
+fn read_outputs(
+    text: &[u8],
+    stage: Stage,
+    names: &mut [u16],
+    inputs: usize,
+) -> Result<Counts, Stopped>
     requires { OutputsAsked text.now stage names.old }
     ensures { OutputsOf text.now stage inputs names.old names.new result }
 {
-    let line = read_names(text, stage.next, names, stage.listed, true);
-    match line {
-        Line::Stopped(place) => Scan::Stopped(place),
-        Line::Read(reached) => {
-            let end = reached.next;
-            if end == text.len() {
-                return Scan::Read(Counts {
-                    inputs: inputs,
-                    definitions: stage.listed,
-                    gates: stage.made,
-                    outputs: reached.listed - stage.listed,
-                });
-            }
-            Scan::Stopped(end)
-        }
+    let line = read_names(text, stage.next, names, stage.listed, true)?;
+    if line.next != text.len() {
+        return Err(Stopped { place: line.next });
     }
+    Ok(Counts {
+        inputs,
+        definitions: stage.listed,
+        gates: stage.made,
+        outputs: line.listed - stage.listed,
+    })
 }
 
 // All behind the line of inputs.
-fn read_equated(text: &[u8], at: usize, gates: &mut [u16], names: &mut [u16], inputs: usize) -> Scan
+fn read_equated(
+    text: &[u8],
+    at: usize,
+    gates: &mut [u16],
+    names: &mut [u16],
+    inputs: usize,
+) -> Result<Counts, Stopped>
     requires { EquationsAsked text.now at gates.old names.old inputs }
     ensures { EquatedOf text.now at gates.old names.old inputs gates.new names.new result }
 {
-    let ended = read_equations(text, at, gates, names, inputs);
-    match ended {
-        Ended::Stopped(place) => Scan::Stopped(place),
-        Ended::Out(stage) => read_outputs(text, stage, names, inputs),
-    }
+    let stage = read_equations(text, at, gates, names, inputs)?;
+    read_outputs(text, stage, names, inputs)
 }
 
 // All behind `in`.
-fn read_inputs(text: &[u8], at: usize, gates: &mut [u16], names: &mut [u16]) -> Scan
+fn read_inputs(
+    text: &[u8],
+    at: usize,
+    gates: &mut [u16],
+    names: &mut [u16],
+) -> Result<Counts, Stopped>
     requires scan_asked { ScanAsked text.now gates.old names.old }
     requires at_in_bounds { at ≤ length text.now }
     ensures { InputsOf text.now at gates.old names.old gates.new names.new result }
 {
-    let line = read_names(text, at, names, 0, false);
-    match line {
-        Line::Stopped(place) => Scan::Stopped(place),
-        Line::Read(reached) => { read_equated(text, reached.next, gates, names, reached.listed) }
-    }
+    let line = read_names(text, at, names, 0, false)?;
+    read_equated(text, line.next, gates, names, line.listed)
 }
 
-fn read_whole(text: &[u8], gates: &mut [u16], names: &mut [u16]) -> Scan
+fn read_whole(text: &[u8], gates: &mut [u16], names: &mut [u16]) -> Result<Counts, Stopped>
     requires { ScanAsked text.now gates.old names.old }
     ensures { TextOf text.now gates.old names.old gates.new names.new result }
 {
     let at = skip_blanks(text, 0);
     if byte_at(text, at) != LETTER_I {
-        return Scan::Stopped(at);
+        return Err(Stopped { place: at });
     }
     let second = at + 1;
     if byte_at(text, second) != LETTER_N {
-        return Scan::Stopped(second);
+        return Err(Stopped { place: second });
     }
     read_inputs(text, second + 1, gates, names)
 }
 
-// Where the text stops, the arrays are 0 again.
-pub fn read_text(text: &[u8], gates: &mut [u16], names: &mut [u16]) -> Scan
+// A text in the grammar; or the end of its longest beginning, and the arrays are 0 again.
+pub fn read_text(text: &[u8], gates: &mut [u16], names: &mut [u16]) -> Result<Counts, Stopped>
     requires { ScanAsked text.now gates.old names.old }
     ensures { Scans text.now gates.old names.old gates.new names.new result }
 {
     let scan = read_whole(text, gates, names);
-    match scan {
-        Scan::Read(counts) => Scan::Read(counts),
-        Scan::Stopped(place) => {
-            let all_gates = gates.len();
-            let all_names = names.len();
-            columns::clear(gates, all_gates);
-            columns::clear(names, all_names);
-            Scan::Stopped(place)
-        }
+    if scan.is_err() {
+        gates.fill(0);
+        names.fill(0);
     }
+    scan
 }

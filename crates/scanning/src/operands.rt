@@ -3,9 +3,9 @@ ghost use Rattle.std.specs.Prelude.{◌≡◌, false, ◌+◌, ◌*◌, ◌≤�
 ghost use Rattle.grammar.specs.paper.Text.{byte_at, is_blank, most_text};
 ghost use Rattle.scanning.specs.Reading.{Banged, Closed, NameRead};
 
-use crate::expressions::{Part, Piece};
+use crate::expressions::Piece;
 use crate::gates::negate;
-use spelling::{Word, byte_at, read_name, skip_blanks};
+use spelling::{Stopped, byte_at, read_name, skip_blanks};
 
 const BANG: u8 = 33;
 
@@ -24,48 +24,47 @@ pub fn skip_bangs(text: &[u8], at: usize) -> Bangs
 {
     let mut next = at;
     let mut count = 0;
-    let mut sign = byte_at(text, next);
-    while sign == BANG {
+    while byte_at(text, next) == BANG {
         next = skip_blanks(text, next + 1);
         count += 1;
-        sign = byte_at(text, next);
     }
     Bangs { next, count }
 }
 
 // The bracket that ends what was read, behind `count` signs `!`.
-pub fn close_bracket(text: &[u8], piece: Piece, count: usize, gates: &mut [u16]) -> Part
+pub fn close_bracket(
+    text: &[u8],
+    piece: Piece,
+    count: usize,
+    gates: &mut [u16],
+) -> Result<Piece, Stopped>
     requires { (piece.made + count ≤ most_text) × (3 * most_text ≤ length gates.old) }
     ensures { Closed text.now count piece gates.old gates.new result }
 {
-    if byte_at(text, piece.next) == CLOSING {
-        let whole = Piece {
-            next: skip_blanks(text, piece.next + 1),
-            operand: piece.operand,
-            made: piece.made,
-        };
-        Part::Read(negate(gates, whole, count))
-    } else {
-        Part::Stopped(piece.next)
+    if byte_at(text, piece.next) != CLOSING {
+        return Err(Stopped { place: piece.next });
     }
+    let next = skip_blanks(text, piece.next + 1);
+    Ok(negate(gates, Piece { next, ..piece }, count))
 }
 
 // A name that is an operand, behind `count` signs `!`.
-pub fn name_operand(text: &[u8], at: usize, count: usize, gates: &mut [u16], made: usize) -> Part
+pub fn name_operand(
+    text: &[u8],
+    at: usize,
+    count: usize,
+    gates: &mut [u16],
+    made: usize,
+) -> Result<Piece, Stopped>
     requires text_len_bound { length text.now ≤ most_text }
     requires count_bound { (made + count ≤ most_text) × (3 * most_text ≤ length gates.old) }
     ensures { NameRead text.now at count gates.old made gates.new result }
 {
-    let word = read_name(text, at);
-    match word {
-        Word::Stopped(p) => Part::Stopped(p),
-        Word::Name(end) => {
-            let piece = Piece {
-                next: skip_blanks(text, end),
-                operand: at as u16,
-                made,
-            };
-            Part::Read(negate(gates, piece, count))
-        }
-    }
+    let end = read_name(text, at)?;
+    let piece = Piece {
+        next: skip_blanks(text, end),
+        operand: at as u16,
+        made,
+    };
+    Ok(negate(gates, piece, count))
 }

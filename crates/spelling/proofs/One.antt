@@ -9,8 +9,8 @@ use mathlib.Core.List.{List}
 use Rattle.grammar.specs.paper.Text.{byte_at, is_word_byte, most_letters}
 use Rattle.grammar.specs.paper.Grammar.{between}
 use Rattle.grammar.specs.Machine.{is_keyword}
-use Rattle.spelling.specs.declared.Word.{Word}
-use Rattle.spelling.specs.declared.Word.TheVariants as word
+use Rattle.std.specs.Prelude.{Result, Ok, Err}
+use Rattle.spelling.specs.declared.Stopped.{Stopped}
 use Rattle.spelling.specs.Spelling.{Ends, Named, Unnamed, Spelled}
 
 module _ (s : List ℕ) {i : ℕ} where
@@ -41,9 +41,8 @@ module _ (s : List ℕ) {i : ℕ} where
   unnamed_one (Unnamed.keyword k) (Unnamed.keyword l) =
       ends_one k.some l.some k.few l.few k.each l.each (inl k.ends) (inl l.ends)
 
-pub spelled_one : (s : List ℕ) (i : ℕ) (r q : Word) → Spelled s i r → Spelled s i q → r ≡ q
-spelled_one s i (word.Name j) (word.Name k) a b =
-    ap word.Name (ends_one s a.name.some b.name.some a.name.few b.name.few a.name.each b.name.each a.ends b.ends)
-spelled_one s i (word.Name j) (word.Stopped q) a b = no_name_there s a b
-spelled_one s i (word.Stopped p) (word.Name k) a b = no_name_there s b a
-spelled_one s i (word.Stopped p) (word.Stopped q) a b = ap word.Stopped (unnamed_one s a b)
+pub spelled_one : (s : List ℕ) (i : ℕ) (r q : Result ℕ Stopped) → Spelled s i r → Spelled s i q → r ≡ q
+spelled_one s i (Ok j) (Ok k) a b = ap Ok (ends_one s a.name.some b.name.some a.name.few b.name.few a.name.each b.name.each a.ends b.ends)
+spelled_one s i (Ok j) (Err q) a b = no_name_there s a b
+spelled_one s i (Err p) (Ok k) a b = no_name_there s b a
+spelled_one s i (Err p) (Err q) a b = ap (λ (n : ℕ). Err (record { place = n })) (unnamed_one s a b)

@@ -1,10 +1,9 @@
 -- What the readers of blanks and names promise.
-use Rattle.std.specs.Prelude.{ℕ, ◌+◌, ◌≤◌, ◌<◌, ◌≡◌, true, false, ◌⊎◌, List, length}
+use Rattle.std.specs.Prelude.{ℕ, ◌+◌, ◌≤◌, ◌<◌, ◌≡◌, true, false, ◌⊎◌, List, length, Result, Ok, Err}
 use Rattle.grammar.specs.paper.Text.{byte_at, is_blank, is_letter, is_word_byte, most_letters}
 use Rattle.grammar.specs.paper.Grammar.{between, Blanks, Name}
 use Rattle.grammar.specs.Machine.{is_keyword}
-use Rattle.spelling.specs.declared.Word.{Word}
-use Rattle.spelling.specs.declared.Word.TheVariants as word
+use Rattle.spelling.specs.declared.Stopped.{Stopped}
 
 module _ (s : List ℕ) where
   -- all blanks from i on
@@ -47,6 +46,6 @@ module _ (s : List ℕ) where
     no_letter : p ≡ i → is_letter (byte_at s i) ≡ false → Unnamed i p
     keyword : Keyword i p → Unnamed i p
 
-  abbrev pub Spelled : (i : ℕ) → Word → Type 0
-  Spelled i (word.Name j) = Named i j
-  Spelled i (word.Stopped p) = Unnamed i p
+  abbrev pub Spelled : (i : ℕ) → Result ℕ Stopped → Type 0
+  Spelled i (Ok j) = Named i j
+  Spelled i (Err stopped) = Unnamed i stopped.place

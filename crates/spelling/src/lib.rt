@@ -19,11 +19,10 @@ pub const MOST_TEXT: usize = 8192;
 // "names of 1 to 16 letters and digits"
 pub const MOST_LETTERS: usize = 16;
 
-// What stands where a name is due: a name, up to this place; or none, and this is the byte that cannot stand there.
+// Where reading stopped: the byte that cannot stand there.
 #[derive(Clone, Copy)]
-pub enum Word {
-    Name(usize),
-    Stopped(usize),
+pub struct Stopped {
+    pub place: usize,
 }
 
 pub fn byte_at(text: &[u8], at: usize) -> u8
@@ -35,55 +34,31 @@ pub fn byte_at(text: &[u8], at: usize) -> u8
 pub fn is_blank(b: u8) -> bool
     ensures { result ≡ is_blank b }
 {
-    if b == SPACE {
-        return true;
-    }
-    if b == LINE_FEED {
-        return true;
-    }
-    b == CARRIAGE_RETURN
+    matches!(b, SPACE | LINE_FEED | CARRIAGE_RETURN)
 }
 
 pub fn is_letter(b: u8) -> bool
     ensures { result ≡ is_letter b }
 {
-    if b < 65 {
-        return false;
-    }
-    if b <= 90 {
-        return true;
-    }
-    if b < 97 {
-        return false;
-    }
-    b <= 122
+    b.is_ascii_alphabetic()
 }
 
 pub fn is_word_byte(b: u8) -> bool
     ensures { result ≡ is_word_byte b }
 {
-    if is_letter(b) {
-        return true;
-    }
-    if b < 48 {
-        return false;
-    }
-    b <= 57
+    b.is_ascii_alphanumeric()
 }
 
 // The first place from `at` on where no blank stands.
 pub fn skip_blanks(text: &[u8], at: usize) -> usize
     ensures { Skipped text.now at result }
 {
-    let mut next = at;
-    while next < text.len() {
-        if is_blank(text[next]) {
-            next += 1;
-        } else {
+    for next in at..text.len() {
+        if !is_blank(text[next]) {
             return next;
         }
     }
-    next
+    at.max(text.len())
 }
 
 // Where the letters and digits from `at` on end; the 17th is not looked at.
@@ -91,15 +66,13 @@ fn word_end(text: &[u8], at: usize) -> usize
     requires { at < length text.now }
     ensures { WordEnd text.now at result }
 {
-    let mut count = 0;
-    while count < MOST_LETTERS {
-        if is_word_byte(byte_at(text, at + count)) {
-            count += 1;
-        } else {
-            return at + count;
+    let most = at + MOST_LETTERS;
+    for end in at..most {
+        if !is_word_byte(byte_at(text, end)) {
+            return end;
         }
     }
-    at + count
+    most
 }
 
 // Are the bytes up to `end` the word `in` or `out`?
@@ -107,35 +80,20 @@ fn is_keyword(text: &[u8], at: usize, end: usize) -> bool
     requires { (at ≤ end) × (end ≤ length text.now) }
     ensures { result ≡ is_keyword (between text.now at end) }
 {
-    let size = end - at;
-    if size == 2 {
-        if text[at] == 105 {
-            return text[at + 1] == 110;
-        }
-        return false;
-    }
-    if size == 3 {
-        if text[at] == 111 {
-            if text[at + 1] == 117 {
-                return text[at + 2] == 116;
-            }
-        }
-        return false;
-    }
-    false
+    let word = &text[at..end];
+    word == b"in".as_slice() || word == b"out".as_slice()
 }
 
-// A keyword stops behind itself, for there another letter could have made a name of it.
-pub fn read_name(text: &[u8], at: usize) -> Word
+// A name's end. A keyword stops behind itself, for there another letter could have made a name of it.
+pub fn read_name(text: &[u8], at: usize) -> Result<usize, Stopped>
     ensures { Spelled text.now at result }
 {
-    if is_letter(byte_at(text, at)) {
-        let end = word_end(text, at);
-        if is_keyword(text, at, end) {
-            return Word::Stopped(end);
-        }
-        Word::Name(end)
-    } else {
-        Word::Stopped(at)
+    if !is_letter(byte_at(text, at)) {
+        return Err(Stopped { place: at });
     }
+    let end = word_end(text, at);
+    if is_keyword(text, at, end) {
+        return Err(Stopped { place: end });
+    }
+    Ok(end)
 }

@@ -11,8 +11,8 @@ use Rattle.compiling.proofs.compile.Goals as goal
 pub returns-then-text-gt-MOST_TEXT : goal.returns-then-text-gt-MOST_TEXT
 returns-then-text-gt-MOST_TEXT c = Compiles.long c.if-text-gt-MOST_TEXT.true refl refl
 
-pub read_text-scan-requires : goal.read_text-scan-requires
-read_text-scan-requires c =
+pub read_text-requires : goal.read_text-requires
+read_text-requires c =
     record {
       short = omega arith;
       gates_room = omega arith;
@@ -24,8 +24,7 @@ read_text-scan-requires c =
 pub compile_scanned-requires : goal.compile_scanned-requires
 compile_scanned-requires c =
     scanned (omega arith) (omega arith) (omega arith)
-    (rw c.in-Read.is at c.read_text-scan.ensures)
+    c.in-Ok.ensures
 
-pub returns-in-Stopped : goal.returns-in-Stopped
-returns-in-Stopped c =
-    ungrammatical (omega arith) (rw c.in-Stopped.is at c.read_text-scan.ensures).halts
+pub returns-in-Err : goal.returns-in-Err
+returns-in-Err c = ungrammatical (omega arith) c.in-Err.ensures.halts

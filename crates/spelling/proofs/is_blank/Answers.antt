@@ -1,16 +1,12 @@
 -- `is_blank` meets its contract.
-use borrow.Author.Tests.{eq-eqb, ne_eqb}
+use Rattle.std.proofs.Common.{rules}
 use Rattle.grammar.specs.paper.Text.{is_blank}
 use Rattle.spelling.proofs.is_blank.Goals as goal
 
-pub returns-then-b-eq-SPACE : goal.returns-then-b-eq-SPACE
+pub returns-in-32 : goal.returns-in-32
 unfolding is_blank
-returns-then-b-eq-SPACE c = simp (eq-eqb _ _ c.if-b-eq-SPACE.true)
+returns-in-32 c = search rules
 
-pub returns-then-b-eq-LINE_FEED : goal.returns-then-b-eq-LINE_FEED
+pub returns-in_default : goal.returns-in_default
 unfolding is_blank
-returns-then-b-eq-LINE_FEED c = simp (ne_eqb _ _ c.if-b-eq-SPACE.false, eq-eqb _ _ c.if-b-eq-LINE_FEED.true)
-
-pub returns : goal.returns
-unfolding is_blank
-returns c = simp (ne_eqb _ _ c.if-b-eq-SPACE.false, ne_eqb _ _ c.if-b-eq-LINE_FEED.false)
+returns-in_default c = search rules

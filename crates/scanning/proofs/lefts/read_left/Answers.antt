@@ -1,21 +1,16 @@
 -- `read_left` meets its contract.
-use Rattle.scanning.proofs.LeftSides.{left_read, out_here, no_left}
+use Rattle.scanning.proofs.Exits.{goes_on}
+use Rattle.scanning.proofs.LeftSides.{left_side, no_equals, out_here, no_left}
 use Rattle.scanning.proofs.lefts.read_left.Goals as goal
 
-pub read_equals-requires : goal.read_equals-requires
-read_equals-requires c =
-    (rw c.in-Name.is at c.read_name-word.ensures).within
+pub returns-in_err-read_equals-in-Ok : goal.returns-in_err-read_equals-in-Ok
+returns-in_err-read_equals-in-Ok c = rw (goes_on c.from_residual.ensures.1) (no_equals c.in-Ok.ensures c.in_err-read_equals-in-Ok.ensures)
 
-pub returns-then-place-at : goal.returns-then-place-at
-returns-then-place-at c =
-    out_here (rw c.in-Stopped.is at c.read_name-word.ensures) c.if-place-at.true
+pub returns-in_ok-read_equals-in-Ok : goal.returns-in_ok-read_equals-in-Ok
+returns-in_ok-read_equals-in-Ok c = left_side c.in-Ok.ensures c.in_ok-read_equals-in-Ok.ensures
 
-pub returns-in-Name : goal.returns-in-Name
-returns-in-Name c =
-    left_read c.read_equals.result
-    (rw c.in-Name.is at c.read_name-word.ensures) c.read_equals.ensures
+pub returns-in-Err : goal.returns-in-Err
+returns-in-Err c = out_here c.in-Err.ensures c.if-word-at.true
 
-pub returns-else-place-at : goal.returns-else-place-at
-returns-else-place-at c =
-    no_left c.requires (rw c.in-Stopped.is at c.read_name-word.ensures)
-    c.if-place-at.false
+pub returns-in-Err-2 : goal.returns-in-Err-2
+returns-in-Err-2 c = no_left c.requires c.in-Err.ensures c.if-word-at.false
