@@ -1,7 +1,6 @@
 -- What stands behind a word of a line of names, and that the machine halts where neither a name nor `;` does.
 use Prim.Native.Nat.{ℕ, ◌+◌, ◌≤◌}
 use native.Mathlib.Omega.{arith}
-use native.Mathlib.Numerals.{add-one}
 use mathlib.Core.Path.{◌≡◌, refl, sym, ap, ◌∙◌, subst}
 use mathlib.Core.Logic.{◌⊎◌, inl, inr}
 use native.Mathlib.Decide.{ℕ_discrete}
@@ -12,9 +11,9 @@ use lib.Dec.{eqb}
 use borrow.Author.Tests.{eqb-true}
 use Rattle.storage.proofs.Entries.{false_not_true}
 use Rattle.grammar.specs.paper.Text.{byte_at, star, plus, closing, semicolon, equals, is_blank, is_letter, is_digit, is_word_byte, most_letters}
-use Rattle.grammar.specs.paper.Grammar.{between, Blanks, Gap}
+use Rattle.grammar.specs.paper.Grammar.{between, Gap}
 use Rattle.grammar.specs.Machine.{Which, State, Move, Runs, Halts, move, end_of, behind_listed}
-use Rattle.grammar.proofs.Bytes.{and_both, test_fails, word_byte_no_blank, sign_within, blank_within}
+use Rattle.grammar.proofs.Bytes.{test_fails, word_byte_no_blank, sign_within, blank_within}
 use Rattle.grammar.proofs.Words.{length_between}
 use Rattle.grammar.proofs.Moves.{Place, in_name, onward, Due, word_move, word_full, keyword_stuck, run_word, run_blanks, Waits, name_word}
 use Rattle.grammar.proofs.Runs.{run_then}
@@ -46,30 +45,11 @@ named_onward {s} {i} {j} c named = by_byte (is_word_byte (byte_at s j)) refl
     by_byte true e = word_full c (between s i j) (byte_at s j) e (full e named.ends) ∙ sym (onward_word_byte c (byte_at s j) e)
     by_byte false e = word_move c (between s i j) (byte_at s j) named.plain e
 
-pub entry_name : {s : List ℕ} {at from end : ℕ} → Skipped s at from → (from ≡ at → ⊥) → Named s from end → NextName s at from end
-entry_name skipped apart named = record { gap = record { some = omega (arith, skipped.blanks.ordered, apart); blanks = skipped.blanks }; named = named }
-
 -- what the code's test of a byte says
 pub told : (some : Bool) {b c : ℕ} {t v : Bool} → b ≡ c → t ≡ (some && eqb b semicolon) → t ≡ v → (some && eqb c semicolon) ≡ v
 told some is test value = ap (λ (n : ℕ). some && eqb n semicolon) (sym is) ∙ sym test ∙ value
 
 module _ {s : List ℕ} {at : ℕ} (some : Bool) where
-  pub entry_end : {p next : ℕ} → Skipped s at p → (some && eqb (byte_at s p) semicolon) ≡ true → Skipped s (p + 1) next → LineEnd s at some next
-  entry_end {p} {next} skipped ends behind =
-      let (named, here) = and_both some (eqb (byte_at s p) semicolon) ends in
-      let here' = eqb-true (byte_at s p) semicolon here in
-      record {
-        behind_name = named;
-        stop = p;
-        blanks = skipped.blanks;
-        end = record { here = here'; blanks = subst (λ (n : ℕ). Blanks s n next) (add-one p) behind.blanks };
-        within = behind.within (omega (arith, sign_within s p semicolon (omega arith) here'));
-        solid = behind.ends;
-      }
-
-  pub entry_bare : {p : ℕ} → Skipped s at p → (some && eqb (byte_at s p) semicolon) ≡ false → p ≡ at → NoEntry s at some at
-  entry_bare {p} skipped no_end is = NoEntry.bare refl (rw is at skipped.ends) (rw is at no_end)
-
   pub entry_unnamed : {a p : ℕ} → Skipped s at a → (some && eqb (byte_at s a) semicolon) ≡ false → (a ≡ at → ⊥) → Unnamed s a p → NoEntry s at some p
   entry_unnamed {a} skipped no_end apart unnamed =
       NoEntry.unnamed a (record { some = omega (arith, skipped.blanks.ordered, apart); blanks = skipped.blanks }) skipped.ends no_end unnamed

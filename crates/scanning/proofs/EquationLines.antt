@@ -1,14 +1,13 @@
 -- Equations one after the other: what is kept of them grows equation by equation.
-use Prim.Native.Nat.{ℕ, ◌+◌, ◌*◌, ◌-◌, ◌≤◌, ◌<◌}
+use Prim.Native.Nat.{ℕ, ◌+◌, ◌*◌, ◌-◌, ◌≤◌}
 use native.Mathlib.Omega.{arith}
 use native.Mathlib.Nat.{add-zero}
-use mathlib.Core.Path.{◌≡◌, refl, sym, ap, ap₂, ◌∙◌, subst}
+use mathlib.Core.Path.{◌≡◌, refl, sym, ap, ap₂, ◌∙◌}
 use mathlib.Core.Logic.{inr}
 use mathlib.Core.List.{List, [], ◌∷◌, ◌++◌, append_assoc, append-nil}
 use lib.ListN.{length, get_or, length-append}
 use lib.Seq.{sets, length-sets}
 use Rattle.storage.proofs.Stores.{sets_append, stored_beside}
-use Rattle.grammar.specs.paper.Text.{most_text}
 use Rattle.grammar.specs.paper.Grammar.{Tree, Equation, Equates, Equations}
 use Rattle.grammar.specs.paper.Gates.{equation_size, all_size, Definition, equation_nodes}
 use Rattle.grammar.specs.Machine.{Runs}
@@ -17,7 +16,7 @@ use Rattle.grammar.proofs.Places.{equation_size_some}
 use Rattle.grammar.proofs.Stored.{equation_triples_size, all_triples_size, pairs_append, pairs_size, equation_nodes_size}
 use Rattle.grammar.proofs.Runs.{run_then}
 use Rattle.grammar.proofs.Stops.{halts_then}
-use Rattle.scanning.specs.Equations.{LeftSide, Empty, RightAsked, RightSide, RightStopped, TurnAsked, EquationHere, LinesStopped, EquationsAsked, Sofar, OutRead, EquationsOut}
+use Rattle.scanning.specs.Equations.{LeftSide, Empty, RightSide, RightStopped, TurnAsked, EquationHere, LinesStopped, EquationsAsked, Sofar}
 
 -- one more equation
 module _ (last : Equation) where
@@ -51,29 +50,8 @@ equations_more Equations.none equates = Equations.more equates Equations.none
 equations_more (Equations.more first rest) equates = Equations.more first (equations_more rest equates)
 
 -- One equation from its two sides.
-module _ {s : List ℕ} {at start made : ℕ} {gates₀ : List ℕ} where
-  pub right_asked : {names : List ℕ} {listed inputs : ℕ} → TurnAsked s at gates₀ made names listed inputs → LeftSide s at start → RightAsked s start gates₀ made
-  right_asked asked left =
-      record {
-        short = asked.short;
-        begins = record { within = left.here.within; solid = left.here.solid };
-        few = omega (arith, asked.gates_few, left.far);
-        room = asked.gates_room;
-        empty = asked.empty;
-      }
-
 module _ {s : List ℕ} {at start made listed inputs : ℕ} {gates₀ gates names₀ : List ℕ} (asked : TurnAsked s at gates₀ made names₀ listed inputs)
     (left : LeftSide s at start) {next count : ℕ} (right : RightSide s start made gates₀ gates next count) where
-  pub keep_asked : (2 * listed + 1 < length names₀) × ((at < most_text) × (inputs + count - 1 < 3 * most_text))
-  keep_asked =
-      let far = left.far in
-      let forward = right.forward in
-      let within = right.begins.within in
-      let slow = right.slow in (
-        omega (arith, asked.names_few, asked.names_room, asked.short),
-        (omega (arith, asked.short), omega (arith, asked.names_few, asked.inputs_few, asked.gates_few, asked.short)),
-      )
-
   pub count_some : 1 ≤ inputs + count
   count_some = omega (arith, right.counted, equation_size_some right.tree)
 
@@ -133,19 +111,6 @@ module _ {s : List ℕ} {at inputs : ℕ} {gates₀ names₀ : List ℕ} (asked 
 
     pub sofar_names_size : length names ≡ length names₀
     sofar_names_size = ap length sofar.names_stored ∙ length-sets names₀ (2 * inputs) (definition_pairs (equation_nodes inputs sofar.equations))
-
-    pub turn_asked : TurnAsked s next gates made names listed inputs
-    turn_asked =
-        record {
-          short = asked.short;
-          begins = sofar.begins;
-          gates_few = sofar.gates_few;
-          names_few = sofar.names_few;
-          inputs_few = omega (arith, sofar.listed_is);
-          gates_room = omega (arith, asked.gates_room, sofar_gates_size);
-          names_room = omega (arith, asked.names_room, sofar_names_size);
-          empty = sofar.empty;
-        }
 
     pub sofar_more : {gates' names' : List ℕ} {next' count : ℕ} → EquationHere s next gates made names listed inputs gates' names' next' count →
         Sofar s at gates₀ names₀ inputs gates' names' next' count (listed + 1)
@@ -208,10 +173,3 @@ module _ {s : List ℕ} {at inputs : ℕ} {gates₀ names₀ : List ℕ} (asked 
           gates_size = stopped.gates_size ∙ sofar_gates_size;
           names_size = stopped.names_size ∙ sofar_names_size;
         }
-
-    -- where `out` stands
-    pub sofar_out : {gates' names' : List ℕ} {p : ℕ} → OutRead s next gates names gates' names' p → EquationsOut s at gates₀ names₀ inputs gates' names' p made listed
-    sofar_out {gates'} {names'} {p} out =
-        subst (λ (l : List ℕ). EquationsOut s at gates₀ names₀ inputs l names' p made listed) (sym out.gates_kept)
-        (subst (λ (l : List ℕ). EquationsOut s at gates₀ names₀ inputs gates l p made listed) (sym out.names_kept)
-        (record { last = next; sofar = sofar; out = out.here }))

@@ -4,7 +4,7 @@ use native.Mathlib.Omega.{arith}
 use mathlib.Core.Path.{◌≡◌, refl, sym, ap, subst, ◌∙◌}
 use mathlib.Core.List.{List}
 use lib.ListN.{length, take}
-use Rattle.grammar.specs.paper.Text.{byte_at, opening, closing, most_text, most_brackets}
+use Rattle.grammar.specs.paper.Text.{byte_at, opening, closing, most_brackets}
 use Rattle.grammar.specs.paper.Grammar.{Tree, Factor, Sign}
 use Rattle.grammar.specs.paper.Gates.{size_of}
 use Rattle.grammar.specs.Machine.{State, Runs, Halts}
@@ -18,7 +18,7 @@ use Rattle.std.specs.Prelude.{Result, Ok, Err}
 use Rattle.spelling.specs.declared.Stopped.{Stopped}
 use Rattle.scanning.specs.declared.operands.Bangs.{Bangs}
 use Rattle.scanning.specs.Reading.{opened, Asked, Behind, Got, Stops, WholeExpression, Banged, BracketClosed, BracketOpen, Closed, NameTaken, NameMissing, NameRead, FactorAnswer, nots}
-use Rattle.scanning.proofs.Holding.{held_size, held_front, nots_size}
+use Rattle.scanning.proofs.Holding.{held_front, nots_size}
 use Rattle.scanning.proofs.Ends.{sign_of, behind_name_lem, behind_run, behind_bracket, halts_unnamed, halts_deep, halts_unclosed}
 
 name_size : (count p : ℕ) → size_of (nots count (Tree.name p)) ≡ count
@@ -26,10 +26,6 @@ unfolding size_of
 name_size count p = nots_size count (Tree.name p) ∙ omega arith
 
 module _ {s : List ℕ} {n at : ℕ} {gates : List ℕ} {made : ℕ} (asked : Asked s n at gates made) {bangs : Bangs} (b : Banged s at bangs) where
-  -- a gate for each sign fits
-  pub bangs_fit : made + bangs.count ≤ most_text
-  bangs_fit = omega (arith, asked.text, asked.few, b.few, b.within)
-
   pub factor_named : {after : List ℕ} {r : Piece} → NameTaken s bangs.next bangs.count gates made after r →
       Got s (Factor s n at) n at gates made after r
   factor_named {after} {r} taken =
@@ -84,19 +80,6 @@ module _ {s : List ℕ} {n at : ℕ} {gates : List ℕ} {made : ℕ} (asked : As
       low : opened n < most_brackets
       low = omega arith
 
-      pub inside_asked : Asked s (n - 1) inside gates made
-      inside_asked =
-          let start = opening_inside in
-          let ordered : bangs.next + 1 ≤ inside = skipped.blanks.ordered in
-          record {
-            nested = omega (arith, asked.nested);
-            text = asked.text;
-            within = skipped.within (omega arith);
-            starts = skipped.ends;
-            few = omega (arith, asked.few, b.few);
-            room = asked.room;
-          }
-
       leads : Runs s (State.wants (opened n)) at (State.wants (opened (n - 1))) inside
       leads =
           subst (λ (d : ℕ). Runs s (State.wants (opened n)) at (State.wants d) inside) (sym deeper)
@@ -108,12 +91,6 @@ module _ {s : List ℕ} {n at : ℕ} {gates : List ℕ} {made : ℕ} (asked : As
       module _ {middle : List ℕ} {piece : Piece} (got : Got s (WholeExpression s (n - 1) inside) (n - 1) inside gates made middle piece) where
         ahead : bangs.next + 1 ≤ inside
         ahead = skipped.blanks.ordered
-
-        pub bracket_room : 3 * most_text ≤ length middle
-        bracket_room = omega (arith, asked.room, held_size got.holds)
-
-        pub bracket_fits : piece.made + bangs.count ≤ most_text
-        bracket_fits = omega (arith, ahead, got.slow, got.within, asked.text, asked.few, b.few)
 
         inner_behind : Behind s (suc (opened n)) inside piece.next
         inner_behind = subst (λ (d : ℕ). Behind s d inside piece.next) deeper got.behind

@@ -1,7 +1,6 @@
 -- The left side of an equation, or `out`: what stands there and the machine's run over it.
 use Prim.Native.Nat.{ℕ, ◌+◌}
 use native.Mathlib.Omega.{arith}
-use native.Mathlib.Numerals.{add-one}
 use native.Mathlib.Decide.{ℕ_discrete}
 use mathlib.Core.Path.{◌≡◌, refl, sym, ap, ◌∙◌, subst}
 use mathlib.Core.Logic.{◌⊎◌, inl, inr}
@@ -9,28 +8,18 @@ use mathlib.Core.List.{List}
 use lib.ListN.{length}
 use borrow.Author.Tests.{ne_eqb}
 use Rattle.grammar.specs.paper.Text.{byte_at, equals, word_in, word_out}
-use Rattle.grammar.specs.paper.Grammar.{between, Blanks}
+use Rattle.grammar.specs.paper.Grammar.{between}
 use Rattle.grammar.specs.Machine.{State, Move, Runs, Halts, move, behind_left}
-use Rattle.grammar.proofs.Bytes.{keyword_is, sign_within}
+use Rattle.grammar.proofs.Bytes.{keyword_is}
 use Rattle.grammar.proofs.Words.{length_between}
 use Rattle.grammar.proofs.Moves.{Place, Due, Ended, Word, run_word, run_name_blanks, run_equals, run_gap_ended, keyword_stuck, name_word}
 use Rattle.grammar.proofs.Runs.{run_then}
 use Rattle.grammar.proofs.Stops.{between_lines_stuck, left_stuck}
-use Rattle.spelling.specs.Spelling.{Skipped, Named, Unnamed, Keyword}
+use Rattle.spelling.specs.Spelling.{Named, Unnamed, Keyword}
 use Rattle.scanning.specs.Equations.{Begins, EqualsHere, NoEquals, LeftSide, OutHere}
 use Rattle.scanning.proofs.Entries.{named_onward}
 
 module _ {s : List ℕ} where
-  pub equals_here : {end sign start : ℕ} → Skipped s end sign → byte_at s sign ≡ equals → Skipped s (sign + 1) start → EqualsHere s end start
-  equals_here {end} {sign} {start} skipped here behind =
-      record {
-        sign = sign;
-        blanks = skipped.blanks;
-        equals_sign = record { here = here; blanks = subst (λ (n : ℕ). Blanks s n start) (add-one sign) behind.blanks };
-        within = behind.within (omega (arith, sign_within s sign equals (omega arith) here));
-        solid = behind.ends;
-      }
-
   pub left_side : {at end start : ℕ} → Named s at end → EqualsHere s end start → LeftSide s at start
   left_side {at} {end} named here =
       let reached = run_name_blanks Due.between_lines named.name here.blanks in

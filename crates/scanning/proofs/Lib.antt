@@ -2,7 +2,6 @@ pub mod Exits
 pub mod Holding
 pub mod Ends
 pub mod Bangs
-pub mod Clears
 pub mod Taken
 pub mod Factors
 pub mod Chains

@@ -1,5 +1,5 @@
 -- A line of names grows name by name; where it ends or stops, so does the machine's run.
-use Prim.Native.Nat.{ℕ, suc, ◌+◌, ◌*◌, ◌≤◌, ◌<◌}
+use Prim.Native.Nat.{ℕ, suc, ◌+◌, ◌*◌, ◌≤◌}
 use native.Mathlib.Omega.{arith}
 use native.Mathlib.Nat.{add-zero}
 use mathlib.Core.Path.{◌≡◌, refl, sym, ap, ◌∙◌, subst}
@@ -10,7 +10,7 @@ use lib.Dec.{ltb}
 use lib.Seq.{sets, length-sets}
 use borrow.Author.Tests.{lt-ltb, le-ltb, ltb-true}
 use Rattle.storage.proofs.Stores.{sets_append}
-use Rattle.grammar.specs.paper.Text.{byte_at, most_text}
+use Rattle.grammar.specs.paper.Text.{byte_at}
 use Rattle.grammar.specs.paper.Grammar.{between, Gap, Name, Names}
 use Rattle.grammar.specs.Machine.{Which, State, Runs}
 use Rattle.grammar.proofs.Moves.{Place}
@@ -143,15 +143,3 @@ module _ {s : List ℕ} {outs : Bool} {at listed : ℕ} {names₀ : List ℕ} wh
         halts = halts_then sofar.run (entry_halts (which_of outs) (ltb listed count) sofar.takes sofar.alive nothing);
         size = reading_size sofar;
       }
-
-  -- there is room for one more
-  pub reading_room : {names : List ℕ} {end count from next : ℕ} → LineAsked s outs at listed names₀ → Reading s outs at listed names₀ names end count →
-      NextName s end from next → (2 * count + 1 < length names) × ((count < most_text) × (from < most_text))
-  reading_room asked sofar entry =
-      let size = reading_size sofar in
-      let ahead = entry.gap.some in
-      let further = entry.named.name.some in
-      let within = entry.named.within in (
-        omega (arith, asked.room, asked.short, sofar.few),
-        (omega (arith, asked.short, sofar.few), omega (arith, asked.short)),
-      )

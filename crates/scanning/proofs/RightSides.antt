@@ -18,22 +18,13 @@ use Rattle.grammar.proofs.Moves.{Waits, run_blanks}
 use Rattle.grammar.proofs.Runs.{run_then}
 use Rattle.grammar.proofs.Stops.{operand_stuck}
 use Rattle.scanning.specs.declared.expressions.Piece.{Piece}
-use Rattle.scanning.specs.Reading.{Holds, Joined, Got, WholeExpression}
-use Rattle.scanning.specs.Promise.{Unread}
+use Rattle.scanning.specs.Reading.{Holds, Got, WholeExpression}
 use Rattle.scanning.proofs.Holding.{held_size}
 use Rattle.scanning.proofs.Ends.{sign_of}
 use Rattle.std.specs.Prelude.{Result, Ok, Err}
 use Rattle.spelling.specs.declared.Stopped.{Stopped}
 use Rattle.scanning.specs.declared.equations.Moved.{Moved}
-use Rattle.scanning.specs.Equations.{RightAsked, EndAsked, Passed, EndRead, RightStopped, RightRead}
-
--- the gate of an expression that has none
-pub passing_put : {piece r : Piece} {made : ℕ} {gates₁ gates : List ℕ} → Joined pass_table piece.operand piece gates₁ gates r → piece.made ≡ made →
-    (gates ≡ sets gates₁ (3 * made) (triple pass_table piece.operand piece.operand)) × (r.made ≡ made + 1)
-passing_put {piece} {gates₁ = gates₁} joined is = (
-  joined.stored ∙ ap (λ (m : ℕ). sets gates₁ (3 * m) (triple pass_table piece.operand piece.operand)) is,
-  joined.made ∙ ap (λ (m : ℕ). m + 1) is,
-)
+use Rattle.scanning.specs.Equations.{Passed, EndRead, RightStopped, RightRead}
 
 -- an equation's gates are those of its expression, or the one that passes a name's value on
 module _ {gates₀ gates₁ gates : List ℕ} {made count : ℕ} {piece : Piece} where
@@ -61,14 +52,6 @@ count_small {made = made} {count = count} {piece = piece} passed more = by_test 
     by_test (no differ) = omega (arith, (passed.whole differ).1)
 
 module _ {s : List ℕ} {at made : ℕ} {gates₀ gates₁ : List ℕ} {piece : Piece} where
-  pub end_asked : RightAsked s at gates₀ made → Got s (WholeExpression s most_brackets at) most_brackets at gates₀ made gates₁ piece → EndAsked s piece gates₁ made
-  end_asked asked got =
-      record {
-        within = got.within;
-        few = omega (arith, asked.few, asked.begins.within, asked.short);
-        room = omega (arith, asked.room, held_size got.holds);
-      }
-
   pub right_read : (gates : List ℕ) (r : Result Moved Stopped) → Got s (WholeExpression s most_brackets at) most_brackets at gates₀ made gates₁ piece →
       EndRead s piece made gates₁ gates r → RightRead s at made gates₀ gates r
   unfolding behind_operand is_blank
@@ -106,6 +89,3 @@ module _ {s : List ℕ} {at made : ℕ} {gates₀ gates₁ : List ℕ} {piece : 
             };
         size = ap length end.kept ∙ held_size got.holds;
       })
-
-pub right_unread : {s : List ℕ} {at p : ℕ} {gates₀ gates : List ℕ} → Unread s at gates₀ gates p → RightStopped s at gates₀ gates p
-right_unread nothing = record { halts = nothing.halts; size = ap length nothing.kept }

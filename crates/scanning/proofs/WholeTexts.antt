@@ -6,12 +6,10 @@ use native.Mathlib.Numerals.{add-one}
 use mathlib.Core.Path.{◌≡◌, refl, sym, ap, ap₂, ◌∙◌, subst}
 use mathlib.Core.Bool.{true, false}
 use mathlib.Core.List.{List, [], ◌∷◌, ◌++◌}
-use lib.ListN.{length, length-append, get_or}
-use lib.Seq.{sets, length-sets, ext_get_or}
+use lib.ListN.{length, length-append}
+use lib.Seq.{sets, length-sets}
 use borrow.Author.Tests.{ne_eqb}
-use Rattle.storage.specs.Entries.{cleared}
 use Rattle.storage.proofs.Stores.{sets_append}
-use Rattle.storage.proofs.Clears.{cleared_size, cleared_low}
 use Rattle.grammar.specs.paper.Text.{byte_at, is_blank, word_in, word_out, same_word}
 use Rattle.grammar.specs.paper.Grammar.{between, System, Names, Line}
 use Rattle.grammar.specs.paper.Gates.{Definition, input_nodes, equation_nodes}
@@ -55,18 +53,6 @@ behind_last {s} {at} {listed} {names₀} {names} {next} line more =
       size = ap length line.stored ∙ length-sets names₀ (2 * listed) (pairs_from true listed line.places);
     }
 
--- equations and outputs
-pub stage_asked : {s : List ℕ} {at inputs : ℕ} {gates₀ names₀ gates names : List ℕ} {stage : Stage} → EquationsAsked s at gates₀ names₀ inputs →
-    EquationsOut s at gates₀ names₀ inputs gates names stage.next stage.made stage.listed → OutputsAsked s stage names
-stage_asked asked out =
-    record {
-      short = asked.short;
-      within = out.out.within;
-      room = omega (arith, asked.names_room, sofar_names_size asked out.sofar);
-      few = omega (arith, out.sofar.names_few, out.out.size);
-      ends = out.out.ends;
-    }
-
 pub equated : {s : List ℕ} {at inputs : ℕ} {gates₀ names₀ gates names₁ : List ℕ} {stage : Stage} (names : List ℕ) (r : Result Counts Stopped) → EquationsAsked s at gates₀ names₀ inputs →
     EquationsOut s at gates₀ names₀ inputs gates names₁ stage.next stage.made stage.listed → OutputsOf s stage inputs names₁ names r →
     EquatedOf s at gates₀ names₀ inputs gates names r
@@ -83,18 +69,6 @@ equated names (Err p) asked out stopped =
 pub inputs_asked : {s gates names : List ℕ} {at : ℕ} → ScanAsked s gates names → at ≤ length s → LineAsked s false at 0 names
 unfolding which_of start_of behind_word move
 inputs_asked asked within = record { within = within; short = asked.short; room = asked.names_room; few = omega arith; takes = refl }
-
-pub equations_asked : {s gates names₀ names : List ℕ} {at next count : ℕ} → ScanAsked s gates names₀ → LineRead s false at 0 names₀ names next count →
-    EquationsAsked s next gates names count
-equations_asked {names₀ = names₀} asked line =
-    record {
-      short = asked.short;
-      begins = record { within = line.within; solid = line.solid };
-      names_few = line.few;
-      gates_room = asked.gates_room;
-      names_room = omega (arith, asked.names_room, ap length line.stored, length-sets names₀ 0 (pairs_from false 0 line.places));
-      empty = asked.gates_empty;
-    }
 
 pub inputs_read : {s names₀ names₁ : List ℕ} {at next count : ℕ} (gates₀ gates names : List ℕ) (r : Result Counts Stopped) → LineRead s false at 0 names₀ names₁ next count →
     EquatedOf s next gates₀ names₁ count gates names r → InputsOf s at gates₀ names₀ gates names r
@@ -292,13 +266,6 @@ module _ {s : List ℕ} {start : ℕ} (skipped : Skipped s 0 start) where
                     input_nodes_size 0 ins.places,
                     equation_nodes_size (length ins.places) out.sofar.equations,
                   )
-
--- arrays that were 0 are 0 again
-pub emptied : {before after : List ℕ} (used : List ℕ) → after ≡ cleared (length used) used → length used ≡ length before → ((i : ℕ) → get_or before i 0 ≡ 0) → after ≡ before
-emptied {before} {after} used clears size empty =
-    clears
-    ∙ ext_get_or 0 (cleared (length used) used) before (cleared_size (length used) used (omega arith) ∙ size)
-    (λ i low. cleared_low (length used) used (omega arith) i (omega (arith, cleared_size (length used) used (omega arith))) ∙ sym (empty i))
 
 pub whole_text : {s : List ℕ} {start : ℕ} (gates₀ names₀ gates names : List ℕ) (r : Result Counts Stopped) → Skipped s 0 start → byte_at s start ≡ 105 → byte_at s (start + 1) ≡ 110 →
     InputsOf s (start + 1 + 1) gates₀ names₀ gates names r → TextOf s gates₀ names₀ gates names r

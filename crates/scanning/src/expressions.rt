@@ -26,6 +26,7 @@ pub struct Piece {
     pub made: usize,
 }
 
+// No plainer as one with `term`: that would take a sign, a gate and a reader of operands for each, and call 165 deep.
 #[cycle(expression_factor_term)]
 fn expression(
     text: &[u8],

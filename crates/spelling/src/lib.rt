@@ -31,18 +31,21 @@ pub fn byte_at(text: &[u8], at: usize) -> u8
     if at < text.len() { text[at] } else { 0 }
 }
 
+#[tactic(auto, unfolding(grammar::specs::paper::Text::is_blank))]
 pub fn is_blank(b: u8) -> bool
     ensures { result ≡ is_blank b }
 {
     matches!(b, SPACE | LINE_FEED | CARRIAGE_RETURN)
 }
 
+#[tactic(auto, unfolding(grammar::specs::paper::Text::is_letter))]
 pub fn is_letter(b: u8) -> bool
     ensures { result ≡ is_letter b }
 {
     b.is_ascii_alphabetic()
 }
 
+#[tactic(auto, using(crate::proofs::Bytes::word_byte_told))]
 pub fn is_word_byte(b: u8) -> bool
     ensures { result ≡ is_word_byte b }
 {
