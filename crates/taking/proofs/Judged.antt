@@ -5,6 +5,7 @@ use mathlib.Core.Bool.{Bool, true, false, cond, true≢false}
 use mathlib.Core.List.{List}
 use native.Mathlib.Omega.{arith}
 use lib.ListN.{length}
+use Rattle.std.specs.Prelude.{⊤, Result, Ok, Err}
 use borrow.Author.Tests.{le-leb}
 use Rattle.theory.specs.paper.Net.{Net}
 use Rattle.theory.specs.paper.Walk.{LowestLoop, NoLoop}
@@ -25,8 +26,6 @@ use Rattle.drawing.specs.Reading.{Arrays, arrays_of, reading, reply_of, filled, 
 use Rattle.drawing.proofs.SoundTables.{SoundTable, table_sound}
 use Rattle.drawing.proofs.Held.{Holds, whole_holds}
 use Rattle.drawing.proofs.Wholes.{enough_long}
-use Rattle.walking.specs.declared.Ordering.{Ordering}
-use Rattle.walking.specs.declared.Ordering.TheVariants as made
 use Rattle.walking.specs.Promises.{LoopRuling, OrderMade}
 use Rattle.walking.proofs.Outcomes.{order_taken}
 use Rattle.walking.proofs.Unique.{lowest_one, some_loop}
@@ -59,7 +58,7 @@ says_one (Says.taken t) (Says.loop _ b) = absurd (some_loop t.no_loop b)
 says_one (Says.taken _) (Says.taken _) = refl
 
 -- a table that reads whole, once its order is made
-after_order_lem : {s : List ℕ} {o : Ordering} → ReadsWhole s → LoopRuling (drawn s) o → Says s (after_order (numbers_of s) o)
+after_order_lem : {s : List ℕ} {o : Result ⊤ Node} → ReadsWhole s → LoopRuling (drawn s) o → Says s (after_order (numbers_of s) o)
 after_order_lem whole (LoopRuling.none free) = Says.taken (record { whole = whole; no_loop = free })
 after_order_lem whole (LoopRuling.lowest loop) = Says.loop whole loop
 
@@ -96,12 +95,12 @@ pub record TakenAs (s : List ℕ) (n : Numbers) (b : Arrays) (order : List ℕ) 
   pub numbers_are : n ≡ numbers_of s
   pub ready : Ready s b.lines.fanins b.lines.rows b.outputs order
 
-loop_free : {net : Net} → LoopRuling net made.Whole → NoLoop net
+loop_free : {net : Net} → LoopRuling net (Ok tt) → NoLoop net
 loop_free (LoopRuling.none free) = free
 
 module _ (a : Arrays) (order₀ marks₀ s : List ℕ) (long : enough a ≡ true) (b : Arrays) (order marks : List ℕ) (n : Numbers)
     (rows_long : most_nodes ≤ length b.lines.rows) (outputs_long : most_outputs ≤ length b.outputs) (order_long : most_nodes ≤ length order) where
-  ready_whole : b ≡ filled a s → (found s).verdict ≡ Sound → (made : OrderMade (net_of (table_of s)) order₀ marks₀ made.Whole order marks) →
+  ready_whole : b ≡ filled a s → (found s).verdict ≡ Sound → (made : OrderMade (net_of (table_of s)) order₀ marks₀ (Ok tt) order marks) →
       Ready s b.lines.fanins b.lines.rows b.outputs order
   ready_whole is sound order-made =
       let holds : Holds s b = subst (Holds s) (sym is) (whole_holds a s long sound) in
@@ -112,7 +111,7 @@ module _ (a : Arrays) (order₀ marks₀ s : List ℕ) (long : enough a ≡ true
       record {
         drawn = drawn;
         order_long = omega arith;
-        ordered = order_taken drawn (subst (λ (net : Net). OrderMade net order₀ marks₀ made.Whole order marks) (sym holds.net) order-made) refl;
+        ordered = order_taken drawn (subst (λ (net : Net). OrderMade net order₀ marks₀ (Ok tt) order marks) (sym holds.net) order-made) refl;
         small = omega arith;
         k_small = (table).head.k_most;
       } in
@@ -128,9 +127,9 @@ module _ (a : Arrays) (order₀ marks₀ s : List ℕ) (long : enough a ≡ true
 
   after_ready : (v : Verdict) → (found s).verdict ≡ v → b ≡ filled a s → After s order₀ marks₀ (Taken n) order marks (reply_of s (found s) v) →
       TakenAs s n b order
-  after_ready Sound e is (After.ordered made.Whole p order-made) =
+  after_ready Sound e is (After.ordered (Ok tt) p order-made) =
       record { numbers_are = ap (taken_numbers n) p; ready = ready_whole is e order-made }
-  after_ready Sound e is (After.ordered (made.LoopAt g) p order-made) = absurd (true≢false (ap is_taken p))
+  after_ready Sound e is (After.ordered (Err g) p order-made) = absurd (true≢false (ap is_taken p))
   after_ready (RefusedFor x) e is (After.refused p _ _) = absurd (true≢false (ap is_taken p))
 
   pub taken_ready : Takes a order₀ marks₀ s (Taken n) b order marks → TakenAs s n b order

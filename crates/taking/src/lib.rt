@@ -8,7 +8,6 @@ ghost use Rattle.taking.specs.Taking.{TableOrdered, Takes};
 use drawing::limits::MOST_NODES;
 use drawing::{Reading, Refusal};
 use storage::{Node, Numbers};
-use walking::Ordering;
 
 // A table taken, with its numbers; or refused; or the lowest gate on a loop.
 // TooShort: a lent array is shorter than the largest table needs.
@@ -32,8 +31,8 @@ fn order_table(numbers: Numbers, fanins: &[u16], order: &mut [u16], marks: &mut 
 {
     let made = walking::order_gates(numbers, fanins, order, marks);
     match made {
-        Ordering::Whole => Taking::Taken(numbers),
-        Ordering::LoopAt(gate) => Taking::LoopAt(gate),
+        Ok(()) => Taking::Taken(numbers),
+        Err(gate) => Taking::LoopAt(gate),
     }
 }
 

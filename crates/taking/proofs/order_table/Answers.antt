@@ -4,23 +4,23 @@ use Rattle.taking.specs.Taking.{after_order}
 use Rattle.taking.proofs.order_table.Goals as goal
 
 -- src/lib.rt:22:1
-pub returns-in-Whole : goal.returns-in-Whole
-returns-in-Whole c =
+pub returns-in-Ok : goal.returns-in-Ok
+returns-in-Ok c =
     let made = c.order_gates-made in
     let a = c.args in
     record {
       ordering = made.result;
-      reply = ap (after_order a.numbers) (sym c.in-Whole.is);
+      reply = ap (after_order a.numbers) (sym c.in-Ok.is);
       made = made.ensures;
     }
 
 -- src/lib.rt:22:1
-pub returns-in-LoopAt : goal.returns-in-LoopAt
-returns-in-LoopAt c =
+pub returns-in-Err : goal.returns-in-Err
+returns-in-Err c =
     let made = c.order_gates-made in
     let a = c.args in
     record {
       ordering = made.result;
-      reply = ap (after_order a.numbers) (sym c.in-LoopAt.is);
+      reply = ap (after_order a.numbers) (sym c.in-Err.is);
       made = made.ensures;
     }

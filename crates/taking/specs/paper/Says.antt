@@ -1,12 +1,11 @@
 -- What is said of a table's bytes, whatever arrays they are read into: replies 1 to 7, or the table is taken.
-use Rattle.std.specs.Prelude.{ℕ, ◌≡◌, List}
+use Rattle.std.specs.Prelude.{ℕ, ◌≡◌, List, Err}
 use Rattle.theory.specs.paper.Walk.{LowestLoop}
 use Rattle.storage.specs.declared.Node.{Node}
 use Rattle.drawing.specs.declared.Refusal.{Refusal}
 use Rattle.drawing.specs.declared.Verdict.TheVariants.{Refused as RefusedFor}
 use Rattle.drawing.specs.paper.Refusals as table
 use Rattle.drawing.specs.paper.Reading.{found, numbers_of}
-use Rattle.walking.specs.declared.Ordering.TheVariants as made
 use Rattle.walking.specs.paper.Loops as loops
 use Rattle.taking.specs.declared.Taking.{Taking}
 use Rattle.taking.specs.declared.Taking.TheVariants.{Taken, Refused, LoopAt, TooShort}
@@ -20,7 +19,7 @@ room_number = 8
 abbrev pub said : Taking → ℕ × ℕ
 said (Taken n) = (0, 0)
 said (Refused x) = table.said x
-said (LoopAt g) = loops.said (made.LoopAt g)
+said (LoopAt g) = loops.said (Err g)
 said TooShort = (0, 0)
 
 abbrev pub number : Taking → ℕ
