@@ -18,7 +18,7 @@ use Rattle.drawing.specs.paper.Fields.{Verdict, gate_m, gate_ids, gate_at, gate_
 use Rattle.drawing.specs.paper.Reading.{gates_from, OutputsFound, outputs_from, no_more, with_output}
 use Rattle.drawing.specs.Reading.{Lines, lines_of, no_fanins, put_gate, put_gates}
 use Rattle.drawing.specs.Filling.{Ended, end_of, GateRead, gates_done, end_of_outputs}
-use Rattle.drawing.proofs.Ids.{length_ids, ids_none, ids_step, one_less}
+use Rattle.drawing.proofs.Ids.{length_ids, ids_left, ids_none, ids_step}
 use Rattle.drawing.proofs.SoundFields.{gate_sound, output_sound}
 
 -- The stores of a gate's line, as the code makes them: the number of its fanins, the fanins behind it, and the table.
@@ -176,27 +176,16 @@ module _ (form : TableForm) (s : List ℕ) (nodes start : ℕ) (outputs₀ outpu
       }
 
 -- What the loop that stores ids keeps.
-pub record IdsLeft (s : List ℕ) (at width count : ℕ) (ids₀ : List ℕ) (to : ℕ) (ids : List ℕ) (next place left : ℕ) : Type 0 where
-  pub inside : next + left * width ≤ length s
-  pub room : place + left ≤ length ids
-  pub size : length ids ≡ length ids₀
-  pub stored : sets ids₀ to (ids_at s at width count) ≡ sets ids place (ids_at s next width left)
+abbrev pub IdsLeft : (s : List ℕ) (at width count : ℕ) (ids₀ : List ℕ) (to : ℕ) (ids : List ℕ) (i : ℕ) → Type 0
+IdsLeft s at width count ids₀ to ids i = sets ids₀ to (ids_at s at width count) ≡ sets ids (to + i) (ids_left s at width count i)
 
-module _ {s : List ℕ} {at width count : ℕ} {ids₀ : List ℕ} {to : ℕ} {ids : List ℕ} {next place left : ℕ}
-    (kept : IdsLeft s at width count ids₀ to ids next place left) where
-  pub ids_turn : {id : ℕ} → 0 < left → id ≡ number_at s next width →
-      IdsLeft s at width count ids₀ to (set ids place id) (next + width) (place + 1) (left - 1)
+module _ (s : List ℕ) (at width count : ℕ) (ids₀ : List ℕ) (to : ℕ) (ids : List ℕ) (i : ℕ) (kept : IdsLeft s at width count ids₀ to ids i) where
+  pub ids_turn : {id : ℕ} → i < count → id ≡ number_at s (at + i * width) width → IdsLeft s at width count ids₀ to (set ids (to + i) id) (i + 1)
   ids_turn {id} some read =
-      record {
-        inside = omega (arith, kept.inside, one_less left width some);
-        room = omega (arith, kept.room, length-set ids place id);
-        size = length-set ids place id ∙ kept.size;
-        stored =
-            kept.stored
-            ∙ ap (sets ids place) (ids_step s next width left some)
-            ∙ ap (λ (v : ℕ). sets (set ids place v) (suc place) (ids_at s (next + width) width (left - 1))) (sym read)
-            ∙ ap (λ (p : ℕ). sets (set ids place id) p (ids_at s (next + width) width (left - 1))) (sym (add-one place));
-      }
+      kept
+      ∙ ap (sets ids (to + i)) (ids_step s at width count i some)
+      ∙ ap (λ (v : ℕ). sets (set ids (to + i) v) (suc (to + i)) (ids_left s at width count (i + 1))) (sym read)
+      ∙ ap (λ (p : ℕ). sets (set ids (to + i) id) p (ids_left s at width count (i + 1))) (omega arith)
 
-  pub ids_all : left ≤ 0 → ids ≡ sets ids₀ to (ids_at s at width count)
-  ids_all none = sym (kept.stored ∙ ap (sets ids place) (ids_none s next width left none))
+  pub ids_all : count ≤ i → ids ≡ sets ids₀ to (ids_at s at width count)
+  ids_all none = sym (kept ∙ ap (sets ids (to + i)) (ids_none s at width count i none))

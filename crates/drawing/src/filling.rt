@@ -25,14 +25,8 @@ fn put_ids(s: &[u8], at: usize, width: usize, count: usize, ids: &mut [u16], to:
     requires count_in_bounds { to + count ≤ length ids.old }
     ensures { ids.new ≡ sets ids.old to (ids_at s.now at width count) }
 {
-    let mut next = at;
-    let mut place = to;
-    let mut left = count;
-    while 0 < left {
-        ids[place] = small_at(s, next, width) as u16;
-        next += width;
-        place += 1;
-        left -= 1;
+    for i in 0..count {
+        ids[to + i] = small_at(s, at + i * width, width) as u16;
     }
 }
 
@@ -41,10 +35,8 @@ pub fn put_inputs(fanins: &mut [u16], inputs: usize)
     requires { 7 * inputs ≤ length fanins.old }
     ensures { fanins.new ≡ no_fanins fanins.old inputs }
 {
-    let mut v = 0;
-    while v < inputs {
+    for v in 0..inputs {
         fanins[PLACES * v] = 0;
-        v += 1;
     }
 }
 

@@ -2,7 +2,6 @@
 use Rattle.std.specs.Prelude.{◌≡◌, Bool, true, false, ◌&&◌, List, ℕ, length, leb, ⊤, Result, Ok, Err}
 use Rattle.storage.specs.declared.Node.{Node}
 use Rattle.storage.specs.declared.Numbers.{Numbers}
-use Rattle.storage.specs.Drawings.{net_in}
 use Rattle.drawing.specs.declared.ReadError.{ReadError}
 use Rattle.drawing.specs.declared.ReadError.TheVariants as read
 use Rattle.drawing.specs.paper.Limits.{most_nodes}

@@ -1,13 +1,9 @@
 -- `take_table` meets its contract: short arrays and refusals leave the order as it was; a whole table is ordered.
 use native.Mathlib.Omega.{arith}
-use mathlib.Core.Path.{◌≡◌, refl, ap, sym, subst, ◌∙◌}
-use Rattle.std.specs.Prelude.{Ok, Err}
+use mathlib.Core.Path.{sym, subst, ◌∙◌}
 use Rattle.std.proofs.lemmas.Result.{err_from_is_err_and}
-use Rattle.drawing.specs.declared.ReadError.{ReadError}
-use Rattle.drawing.specs.declared.ReadError.TheVariants as read
-use Rattle.drawing.specs.Reading.{Reading, arrays_of}
-use Rattle.taking.specs.Taking.{error_of, After, Takes}
-use Rattle.taking.specs.paper.Says.{Taking}
+use Rattle.drawing.specs.Reading.{arrays_of}
+use Rattle.taking.specs.Taking.{After, Takes}
 use Rattle.taking.proofs.Takings.{whole_room, whole_after, refused_after, ordered_ok, ordered_err}
 use Rattle.taking.proofs.Judged.{roomy_long}
 use Rattle.taking.proofs.take_table.Goals as goal

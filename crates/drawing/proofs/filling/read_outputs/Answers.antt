@@ -1,9 +1,9 @@
 -- `read_outputs` meets its contract: reading from here gives what reading from the start gives.
 use native.Mathlib.Omega.{arith}
 use Prim.Native.Nat.{◌-◌}
-use mathlib.Core.Path.{refl, sym, ◌∙◌}
+use mathlib.Core.Path.{sym, ◌∙◌}
 use lib.ListN.{length}
-use borrow.Author.Tests.{eq-eqb, ne_eqb}
+use borrow.Author.Tests.{ne_eqb}
 use Rattle.std.proofs.lemmas.Result.{err_from_is_err_and}
 use Rattle.drawing.specs.paper.Limits.{most_outputs}
 use Rattle.drawing.proofs.SoundFields.{output_sound}
