@@ -45,26 +45,15 @@ fn head_value(form: TableForm, s: &[u8]) -> Result<(), Refusal>
     }
     let k = byte_at(s, K_AT);
     let inputs = byte_at(s, INPUTS_AT);
-    if byte_at(s, VERSION_AT) != VERSION {
-        return Err(Refusal::Range(0));
-    }
-    if k < LEAST_K {
-        return Err(Refusal::Range(0));
-    }
-    if MOST_K < k {
-        return Err(Refusal::Range(0));
-    }
-    if inputs < LEAST_INPUTS {
-        return Err(Refusal::Range(0));
-    }
-    if MOST_INPUTS < inputs {
-        return Err(Refusal::Range(0));
-    }
     let nodes = inputs + small_at(s, GATES_AT, form.width);
-    if nodes < form.least {
-        return Err(Refusal::Range(0));
-    }
-    if form.most < nodes {
+    if byte_at(s, VERSION_AT) != VERSION
+        || k < LEAST_K
+        || MOST_K < k
+        || inputs < LEAST_INPUTS
+        || MOST_INPUTS < inputs
+        || nodes < form.least
+        || form.most < nodes
+    {
         return Err(Refusal::Range(0));
     }
     Ok(())
@@ -87,20 +76,14 @@ fn gate_value(form: TableForm, numbers: Numbers, s: &[u8], at: usize) -> Result<
 {
     let width = form.width;
     let size = length_at(s, at);
-    if size < NO_FANINS + width {
-        return Err(Refusal::Length(at));
-    }
-    if NO_FANINS + MOST_K * width < size {
+    if size < NO_FANINS + width || NO_FANINS + MOST_K * width < size {
         return Err(Refusal::Length(at));
     }
     let m = byte_at(s, at + FRAME);
     if size != NO_FANINS + m * width {
         return Err(Refusal::Length(at));
     }
-    if (numbers.k.leaves as usize) < m {
-        return Err(Refusal::Range(at));
-    }
-    if !ids_below(s, at + FRAME + 1, width, m, numbers.nodes) {
+    if (numbers.k.leaves as usize) < m || !ids_below(s, at + FRAME + 1, width, m, numbers.nodes) {
         return Err(Refusal::Range(at));
     }
     if full_table(m) < number_at(s, at + FRAME + 1 + m * width, ROWS_SIZE) {

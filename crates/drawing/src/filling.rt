@@ -110,6 +110,7 @@ pub fn read_outputs(
     }
     let width = form.width;
     let mut at = start;
+    // the walk goes by fields to the end of the bytes, so how many it meets is known at its end
     let mut i: usize = 0;
     while at < s.len() {
         output_ruling(form, s, at, MOST_OUTPUTS - i, nodes)?;

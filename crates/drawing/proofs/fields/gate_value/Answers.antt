@@ -10,23 +10,6 @@ use Rattle.drawing.specs.paper.Fields.{gate_m, gate_table}
 use Rattle.drawing.proofs.Ids.{twice, ids_tested}
 use Rattle.drawing.proofs.fields.gate_value.Goals as goal
 
--- src/fields.rt:110:9
-pub returns-then-size-width : goal.returns-then-size-width
-returns-then-size-width c =
-    let a = c.args in
-    let s = a.s.now in
-    simp (lt-ltb (length_at s a.at) (least_gate a.form) (omega arith))
-
--- src/fields.rt:113:9
-pub returns-then-width-size : goal.returns-then-width-size
-returns-then-width-size c =
-    let a = c.args in
-    let s = a.s.now in
-    simp (
-      le-ltb (length_at s a.at) (least_gate a.form) (omega arith),
-      lt-ltb (most_gate a.form) (length_at s a.at) (omega arith),
-    )
-
 -- src/fields.rt:116:28
 pub overflow_mul-m : goal.overflow_mul-m
 overflow_mul-m c =
@@ -48,36 +31,6 @@ returns-then-size-m c =
       le-ltb (length_at s a.at) (least_gate a.form) (omega arith),
       le-ltb (most_gate a.form) (length_at s a.at) (omega arith),
       ne_eqb (length_at s a.at) (gate_size a.form (gate_m s a.at)) (omega arith),
-    )
-
--- src/fields.rt:120:9
-pub returns-then-numbers-m : goal.returns-then-numbers-m
-returns-then-numbers-m c =
-    let a = c.args in
-    let s = a.s.now in
-    let same : c.byte_at-m.result ≡ gate_m s a.at = c.byte_at-m.ensures.byte in
-    let bytes = ap (λ (m : ℕ). m * a.form.width) same in
-    simp (
-      le-ltb (length_at s a.at) (least_gate a.form) (omega arith),
-      le-ltb (most_gate a.form) (length_at s a.at) (omega arith),
-      eq-eqb (length_at s a.at) (gate_size a.form (gate_m s a.at)) (omega arith),
-      lt-ltb a.numbers.k.leaves (gate_m s a.at) (omega arith),
-    )
-
--- src/fields.rt:123:9
-pub returns-then-not-ids_below : goal.returns-then-not-ids_below
-returns-then-not-ids_below c =
-    let a = c.args in
-    let s = a.s.now in
-    let same : c.byte_at-m.result ≡ gate_m s a.at = c.byte_at-m.ensures.byte in
-    let bytes = ap (λ (m : ℕ). m * a.form.width) same in
-    simp (
-      le-ltb (length_at s a.at) (least_gate a.form) (omega arith),
-      le-ltb (most_gate a.form) (length_at s a.at) (omega arith),
-      eq-eqb (length_at s a.at) (gate_size a.form (gate_m s a.at)) (omega arith),
-      le-ltb a.numbers.k.leaves (gate_m s a.at) (omega arith),
-      ids_tested a.numbers.nodes s (value_at a.at + 1) a.form.width c.ids_below.ensures same
-          ∙ c.if-not-ids_below.true-raw,
     )
 
 -- src/fields.rt:126:9
