@@ -18,7 +18,7 @@ use Rattle.drawing.specs.paper.Fields.{Verdict, gate_m, gate_ids, gate_at, gate_
 use Rattle.drawing.specs.paper.Reading.{gates_from, OutputsFound, outputs_from, no_more, with_output}
 use Rattle.drawing.specs.Reading.{Lines, lines_of, no_fanins, put_gate, put_gates}
 use Rattle.drawing.specs.Filling.{Ended, end_of, GateRead, gates_done, end_of_outputs}
-use Rattle.drawing.proofs.Ids.{length_ids, ids_left, ids_none, ids_step}
+use Rattle.drawing.proofs.Ids.{length_ids, ids_left, ids_step}
 use Rattle.drawing.proofs.SoundFields.{gate_sound, output_sound}
 
 -- The stores of a gate's line, as the code makes them: the number of its fanins, the fanins behind it, and the table.
@@ -186,6 +186,3 @@ module _ (s : List ℕ) (at width count : ℕ) (ids₀ : List ℕ) (to : ℕ) (i
       ∙ ap (sets ids (to + i)) (ids_step s at width count i some)
       ∙ ap (λ (v : ℕ). sets (set ids (to + i) v) (suc (to + i)) (ids_left s at width count (i + 1))) (sym read)
       ∙ ap (λ (p : ℕ). sets (set ids (to + i) id) p (ids_left s at width count (i + 1))) (omega arith)
-
-  pub ids_all : count ≤ i → ids ≡ sets ids₀ to (ids_at s at width count)
-  ids_all none = sym (kept ∙ ap (sets ids (to + i)) (ids_none s at width count i none))

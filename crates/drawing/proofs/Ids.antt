@@ -3,7 +3,7 @@ use Prim.Native.Nat.{ℕ, zero, suc, ◌+◌, ◌*◌, ◌-◌, ◌<◌, ◌≤�
 use native.Mathlib.Nat.{add-zero, zero-mul, suc-mul, mul-le-mul_left}
 use native.Mathlib.Omega.{arith}
 use mathlib.Core.Path.{◌≡◌, refl, ap, sym, ◌∙◌}
-use mathlib.Core.Bool.{Bool, true, false, not, not-not}
+use mathlib.Core.Bool.{true, false}
 use mathlib.Core.List.{List, [], ◌∷◌}
 use borrow.Author.Tests.{le-leb, lt-leb}
 use lib.ListN.{length, get_or}
@@ -71,12 +71,3 @@ module _ (s : List ℕ) (at width count i : ℕ) where
       pub below_next : id < nodes → some_from nodes ids_left ≡ some_from nodes (ids_at s (at + (i + 1) * width) width (count - (i + 1)))
       unfolding some_from
       below_next small = ap (some_from nodes) (ids_step some) ∙ rw (lt-leb nodes (number_at s (at + i * width) width) (omega (arith, read.number)))
-
--- what a test of the ids says of the same ids, counted by another name of the count
-pub ids_tested :
-    (n : ℕ) (s : List ℕ) (at width : ℕ) {count m : ℕ} {below : Bool} → below ≡ not (some_from n (ids_at s at width count)) → count ≡ m →
-    some_from n (ids_at s at width m) ≡ not below
-ids_tested n s at width {count} {m} {below} tested same =
-    ap (λ (i : ℕ). some_from n (ids_at s at width i)) (sym same)
-    ∙ sym (not-not (some_from n (ids_at s at width count)))
-    ∙ ap not (sym tested)

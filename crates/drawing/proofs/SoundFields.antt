@@ -4,7 +4,7 @@ use mathlib.Core.Path.{◌≡◌, refl}
 use mathlib.Core.Bool.{Bool, true, false, not, ◌||◌}
 use mathlib.Core.List.{List, ◌++◌}
 use native.Mathlib.Omega.{arith}
-use borrow.Author.Tests.{ltb-false, leb-false, eqb-true, not-false, eq-eqb, le-ltb}
+use borrow.Author.Tests.{ltb-false, leb-false, eqb-true, not-false}
 use lib.ListN.{length, get_or}
 use lib.Dec.{ltb, eqb}
 use Rattle.drawing.specs.declared.TableForm.{TableForm}
@@ -13,7 +13,7 @@ use Rattle.drawing.specs.paper.Limits.{least_k, most_k, least_inputs, most_input
 use Rattle.drawing.specs.paper.Bytes.{length_at, value_at, some_from}
 use Rattle.drawing.specs.paper.Forms.{form_of, gates_start, gate_size, least_gate, most_gate}
 use Rattle.drawing.specs.Forms.{Formed}
-use Rattle.drawing.specs.paper.Fields.{frame_rules, head_rules, head_verdict, head_out_of_range, head_k, head_i, head_g, gates_in}
+use Rattle.drawing.specs.paper.Fields.{frame_rules, head_rules, head_verdict, head_k, head_i, head_g}
 use Rattle.drawing.specs.paper.Fields.{gate_rules, gate_verdict, gate_m, gate_ids, gate_table, output_rules, output_verdict, output_id}
 use Rattle.drawing.proofs.Verdicts.{none_holds}
 use Rattle.drawing.proofs.Ids.{some_id}
@@ -25,54 +25,6 @@ neither false e = (refl, e)
 -- ids have one byte
 pub formed_of : (s : List ℕ) → Formed (form_of s)
 formed_of s = record { narrow = record { some = omega arith; few = omega arith }; sized = omega arith }
-
--- the numbers of a head are the paper's
-pub record InRange (form : TableForm) (s : List ℕ) : Type 0 where
-  pub version_is : get_or s frame_size 0 ≡ version
-  pub k_least : least_k ≤ head_k s
-  pub k_most : head_k s ≤ most_k
-  pub inputs_least : least_inputs ≤ head_i s
-  pub inputs_most : head_i s ≤ most_inputs
-  pub nodes_least : form.least ≤ head_i s + gates_in form s
-  pub nodes_most : head_i s + gates_in form s ≤ form.most
-
-pub ranged : (form : TableForm) (s : List ℕ) → head_out_of_range form s ≡ false → InRange form s
-ranged form s e =
-    let nodes = head_i s + gates_in form s in
-    let is = neither (not (eqb (get_or s frame_size 0) version)) e in
-    let k_least = neither (ltb (head_k s) least_k) is.1 in
-    let k_most = neither (ltb most_k (head_k s)) k_least.1 in
-    let inputs_least = neither (ltb (head_i s) least_inputs) k_most.1 in
-    let inputs_most = neither (ltb most_inputs (head_i s)) inputs_least.1 in
-    let nodes_least = neither (ltb nodes form.least) inputs_most.1 in
-    record {
-      version_is = eqb-true (get_or s frame_size 0) version (not-false (eqb (get_or s frame_size 0) version) is.0);
-      k_least = ltb-false (head_k s) least_k k_least.0;
-      k_most = ltb-false most_k (head_k s) k_most.0;
-      inputs_least = ltb-false (head_i s) least_inputs inputs_least.0;
-      inputs_most = ltb-false most_inputs (head_i s) inputs_most.0;
-      nodes_least = ltb-false nodes form.least nodes_least.0;
-      nodes_most = ltb-false form.most nodes nodes_least.1;
-    }
-
-pub in_range : (form : TableForm) (s : List ℕ) → InRange form s → head_out_of_range form s ≡ false
-in_range form s r =
-    simp (
-      eq-eqb (get_or s frame_size 0) version r.version_is,
-      le-ltb (head_k s) least_k r.k_least,
-      le-ltb most_k (head_k s) r.k_most,
-      le-ltb (head_i s) least_inputs r.inputs_least,
-      le-ltb most_inputs (head_i s) r.inputs_most,
-      le-ltb (head_i s + gates_in form s) form.least r.nodes_least,
-      le-ltb form.most (head_i s + gates_in form s) r.nodes_most,
-    )
-
-pub out_of_range : (form : TableForm) (s : List ℕ) → (InRange form s → ⊥) → head_out_of_range form s ≡ true
-out_of_range form s outside = by (head_out_of_range form s) refl
-  where
-    by : (b : Bool) → head_out_of_range form s ≡ b → b ≡ true
-    by true e = refl
-    by false e = absurd (outside (ranged form s e))
 
 pub record SoundHead (s : List ℕ) : Type 0 where
   pub whole : gates_start (form_of s) ≤ length s
@@ -87,17 +39,23 @@ pub head_sound : (s : List ℕ) → head_verdict s ≡ Ok tt → SoundHead s
 unfolding head_verdict
 head_sound s e =
     let form = form_of s in
+    let nodes = head_i s + head_g s in
     let rules = none_holds (frame_rules s 0 form.head false ++ head_rules form s) tt e in
     let size = eqb-true (length_at s 0) form.size (not-false (eqb (length_at s 0) form.size) rules.1.1.1.1.0) in
-    let range = ranged form s rules.1.1.1.1.1.0 in
+    let version = neither (not (eqb (get_or s frame_size 0) version)) rules.1.1.1.1.1.0 in
+    let k_least = neither (ltb (head_k s) least_k) version.1 in
+    let k_most = neither (ltb most_k (head_k s)) k_least.1 in
+    let inputs_least = neither (ltb (head_i s) least_inputs) k_most.1 in
+    let inputs_most = neither (ltb most_inputs (head_i s)) inputs_least.1 in
+    let nodes_least = neither (ltb nodes form.least) inputs_most.1 in
     record {
       whole = omega (arith, ltb-false (length s - 0) frame_size rules.0, ltb-false (length s - value_at 0) (length_at s 0) rules.1.1.1.0);
-      k_least = range.k_least;
-      k_most = range.k_most;
-      inputs_least = range.inputs_least;
-      inputs_most = range.inputs_most;
-      nodes_least = range.nodes_least;
-      nodes_most = range.nodes_most;
+      k_least = ltb-false (head_k s) least_k k_least.0;
+      k_most = ltb-false most_k (head_k s) k_most.0;
+      inputs_least = ltb-false (head_i s) least_inputs inputs_least.0;
+      inputs_most = ltb-false most_inputs (head_i s) inputs_most.0;
+      nodes_least = ltb-false nodes form.least nodes_least.0;
+      nodes_most = ltb-false form.most nodes nodes_least.1;
     }
 
 module _ (form : TableForm) (s : List ℕ) where

@@ -1,7 +1,7 @@
 -- `number_at` meets its contract: the number so far is that of the bytes passed.
 use Prim.Native.Nat.{◌+◌, ◌*◌}
 use native.Mathlib.Omega.{arith}
-use mathlib.Core.Path.{◌≡◌, sym}
+use mathlib.Core.Path.{sym}
 use lib.ListN.{get_or}
 use Rattle.drawing.proofs.Digits.{number_none, number_more, run_size, run_byte, byte_room, word_room}
 use Rattle.drawing.proofs.bytes.number_at.Goals as goal
@@ -37,11 +37,3 @@ loop-byte-preserved c =
       omega (arith, number_more a.s.now a.at l.byte-index (omega arith)),
       byte_room l.number l.byte-index (get_or a.s.now (a.at + l.byte-index) 0) (omega arith) (omega arith),
     )
-
-pub returns : goal.returns
-returns c =
-    let a = c.args in
-    let l = c.loop-byte in
-    let size = run_size a.s.now a.at a.size c.requires.size_in_bounds in
-    let all : l.byte-index ≡ a.size = omega arith in
-    rw (← all) l.invariant.0

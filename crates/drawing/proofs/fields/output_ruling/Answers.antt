@@ -1,20 +1,9 @@
 -- `output_ruling` meets its contract: the frame's ruling, and where that is sound the value's.
-use native.Mathlib.Omega.{arith}
-use mathlib.Core.Path.{sym, ◌∙◌}
 use lib.Dec.{eqb}
 use Rattle.drawing.specs.paper.Fields.{frame_rules, output_rules, output_verdict}
 use Rattle.std.proofs.lemmas.Result.{err_from_is_err_and}
-use Rattle.drawing.proofs.Verdicts.{frame_fits, refused_first, sound_first}
+use Rattle.drawing.proofs.Verdicts.{refused_first, sound_first}
 use Rattle.drawing.proofs.fields.output_ruling.Goals as goal
-
--- src/fields.rt:168:27
-pub output_value-requires : goal.output_value-requires
-output_value-requires c =
-    let a = c.args in record {
-      formed = c.requires.formed;
-      at_in_bounds = frame_fits a.s.now a.at a.form.output (eqb a.room 0) (omega arith)
-          (sym c.frame.ensures ∙ c.in_ok-frame.was);
-    }
 
 -- src/fields.rt:160:1
 pub returns-in_err-frame : goal.returns-in_err-frame

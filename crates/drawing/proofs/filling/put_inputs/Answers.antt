@@ -1,7 +1,6 @@
 -- `put_inputs` meets its contract: the inputs passed have no fanins.
-use native.Mathlib.Omega.{arith}
 use Prim.Native.Nat.{ℕ, ◌*◌}
-use mathlib.Core.Path.{◌≡◌, refl, ap, ◌∙◌}
+use mathlib.Core.Path.{refl, ap, ◌∙◌}
 use mathlib.Core.List.{List}
 use lib.ListN.{set}
 use Rattle.drawing.specs.Reading.{no_fanins}
@@ -16,8 +15,3 @@ pub loop-v-preserved : goal.loop-v-preserved
 loop-v-preserved c =
     let l = c.loop-v in
     ap (λ (x : List ℕ). set x (7 * l.v) 0) l.invariant ∙ no_fanins_more c.args.fanins.now l.v
-
-pub returns : goal.returns
-returns c =
-    let all : c.loop-v.v ≡ c.args.inputs = omega arith in
-    c.loop-v.invariant ∙ ap (no_fanins c.args.fanins.now) all

@@ -1,7 +1,6 @@
 -- `read_gate` meets its contract: a sound gate fits, and is stored; a refused one stores nothing.
 use native.Mathlib.Omega.{arith}
 use mathlib.Core.Path.{sym, ◌∙◌}
-use Rattle.std.proofs.lemmas.Result.{err_from_is_err_and}
 use Rattle.drawing.proofs.SoundFields.{gate_sound}
 use Rattle.drawing.proofs.filling.read_gate.Goals as goal
 
@@ -26,14 +25,3 @@ overflow_add-result-2 c =
     let ruled = sym c.gate_ruling.ensures ∙ c.in_ok-gate_ruling.was in
     let sound = gate_sound a.form a.s.now c.requires.formed a.at a.numbers.k.leaves a.numbers.nodes c.requires.inside ruled in
     omega (arith, c.length_at.ensures)
-
-pub returns-in_err-gate_ruling : goal.returns-in_err-gate_ruling
-returns-in_err-gate_ruling c =
-    let p = err_from_is_err_and c.from_residual.result c.from_residual.ensures.1 in
-    let ruled = sym c.gate_ruling.ensures ∙ c.in_err-gate_ruling.was in
-    record { reply = rw (p.1, p.2, ruled); lines = rw ruled }
-
-pub returns : goal.returns
-returns c =
-    let ruled = sym c.gate_ruling.ensures ∙ c.in_ok-gate_ruling.was in
-    record { reply = rw (ruled, c.length_at.ensures); lines = rw ruled c.put_gate.ensures }
