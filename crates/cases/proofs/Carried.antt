@@ -16,16 +16,14 @@ use Rattle.theory.proofs.DecideNet.{is_bounded, decides_bounded, NothingBeyond}
 use Rattle.theory.proofs.DecideCut.{is_lowest_loop, decides_lowest_loop}
 use Rattle.theory.proofs.Walks.{no_loop}
 use Rattle.storage.specs.declared.Numbers.{Numbers}
-use Rattle.drawing.specs.declared.Verdict.TheVariants.{Sound}
+use Rattle.std.specs.Prelude.{Ok}
 use Rattle.drawing.specs.paper.Table.{Table, net_of, tables_of}
 use Rattle.drawing.specs.paper.Fields.{head_g}
 use Rattle.drawing.specs.paper.Reading.{found, table_of, numbers_of}
 use Rattle.drawing.proofs.SoundTables.{table_sound}
 use Rattle.walking.proofs.Unique.{some_loop}
-use Rattle.taking.specs.declared.Taking.{Taking}
-use Rattle.taking.specs.declared.Taking.TheVariants.{Taken}
 use Rattle.taking.specs.paper.Taken.{IsTaken}
-use Rattle.taking.specs.paper.Says.{Says, said, number, place}
+use Rattle.taking.specs.paper.Says.{Taking, Says, said, number, place}
 use Rattle.taking.proofs.Judged.{says_one, refusal_number}
 use Rattle.sheet.specs.paper.Limits.{sheet_room}
 use Rattle.sheet.specs.paper.Sheet.{Sheet}
@@ -78,7 +76,7 @@ is_so c = eqb (length c.bytes) c.count && is_read c.bytes c.table && is_coming c
 
 -- The bytes read as the table
 module _ (s : List ℕ) (table : Table) (test : is_read s table ≡ true) where
-  sound : (found s).verdict ≡ Sound
+  sound : (found s).verdict ≡ Ok tt
   unfolding is_read
   sound = sound_verdict (found s).verdict (both {a = is_sound (found s).verdict} test).0
 
@@ -100,8 +98,8 @@ module _ (s : List ℕ) (table : Table) (test : is_read s table ≡ true) where
   is_taken_lem : NoLoop (net_of table) → IsTaken s
   is_taken_lem free = record { whole = sound; no_loop = subst (λ (t : Table). NoLoop (net_of t)) (sym reads) free }
 
-  taken : NoLoop (net_of table) → Says s (Taken (numbers_for table))
-  taken free = subst (λ (n : Numbers). Says s (Taken n)) numbers_are (Says.taken (is_taken_lem free))
+  taken : NoLoop (net_of table) → Says s (Ok (numbers_for table))
+  taken free = subst (λ (n : Numbers). Says s (Ok n)) numbers_are (Says.taken (is_taken_lem free))
 
   looped : {g : ℕ} → LowestLoop (net_of table) g → Says s (loop_at g)
   looped {g} loop = Says.loop sound (subst (λ (t : Table). LowestLoop (net_of t) g) (sym reads) loop)

@@ -14,8 +14,8 @@ use Rattle.theory.specs.paper.Evidence.{peak, Owes}
 use Rattle.theory.proofs.Tests.{Decides, decides_as, decides_itself, passed, ◌and_then◌, decides_not, decides_if, decides_le, decides_lt, decides_equal, decides_below, every_below}
 use Rattle.theory.proofs.DecideNet.{is_gate, decides_gate}
 use Rattle.theory.proofs.DecideCut.{is_behind, decides_behind}
-use Rattle.drawing.specs.declared.Verdict.{Verdict}
-use Rattle.drawing.specs.declared.Verdict.TheVariants.{Sound, Refused}
+use Rattle.drawing.specs.paper.Fields.{Verdict}
+use Rattle.std.specs.Prelude.{Ok, Err}
 use Rattle.drawing.specs.paper.Table.{GateLine, Table}
 use Rattle.sheet.specs.paper.Sheet.{Lut, Roots}
 
@@ -75,12 +75,12 @@ same_table a b e =
     }
 
 abbrev pub is_sound : Verdict → Bool
-is_sound Sound = true
-is_sound (Refused r) = false
+is_sound (Ok _) = true
+is_sound (Err r) = false
 
-pub sound_verdict : (v : Verdict) → is_sound v ≡ true → v ≡ Sound
-sound_verdict Sound e = refl
-sound_verdict (Refused r) e = absurd (false≢true e)
+pub sound_verdict : (v : Verdict) → is_sound v ≡ true → v ≡ Ok tt
+sound_verdict (Ok _) e = refl
+sound_verdict (Err r) e = absurd (false≢true e)
 
 -- are the roots gates, and do they rise?
 unfoldable pub are_roots : (nodes least : ℕ) → List Lut → Bool

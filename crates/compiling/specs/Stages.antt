@@ -5,7 +5,7 @@ use Rattle.drawing.specs.paper.Forms.{narrow_table}
 use Rattle.theory.specs.paper.Walk.{LowestLoop, NoLoop}
 use Rattle.storage.specs.declared.Node.{Node}
 use Rattle.drawing.specs.paper.Table.{Table, net_of}
-use Rattle.taking.specs.declared.Taking.{Taking}
+use Rattle.taking.specs.paper.Says.{Taking}
 use Rattle.sheet.specs.Writing.{Room, Written}
 use Rattle.tabling.specs.paper.Encoding.{gate_field, encode}
 use Rattle.tabling.specs.Within.{Within}

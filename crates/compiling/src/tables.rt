@@ -8,9 +8,9 @@ use drawing::limits::{MOST_NODES, MOST_OUTPUTS, MOST_PLACES};
 use naming::arrays::{left_at, place_at, right_at, table_at};
 use naming::nodes::{node_of, operand_node};
 use scanning::Counts;
-use storage::CutSize;
+use storage::{CutSize, Numbers};
 use tabling::{put_gate, put_output, put_table_head};
-use taking::{Taking, take_table};
+use taking::{TakeError, take_table};
 
 // One gate, its operands' nodes looked up.
 fn write_gate(
@@ -98,7 +98,7 @@ pub fn write_table(
 }
 
 // Taken, or refused for a loop: the table's gates are put in order, in arrays of its own.
-fn judge(written: &[u8]) -> Taking
+fn judge(written: &[u8]) -> Result<Numbers, TakeError>
     ensures { JudgedBytes written.now result }
 {
     let mut fanins = [0u16; MOST_PLACES];
@@ -123,7 +123,7 @@ pub fn store_table(written: &[u8], table: &mut [u8]) -> Reply
 {
     let taken = judge(written);
     match taken {
-        Taking::Taken(_) => {
+        Ok(_) => {
             if table.len() < TABLE_ROOM {
                 return Reply::Room;
             }
@@ -131,9 +131,9 @@ pub fn store_table(written: &[u8], table: &mut [u8]) -> Reply
             table[..length].copy_from_slice(written);
             Reply::Compiled(length)
         }
-        Taking::LoopAt(gate) => Reply::LoopAt(gate),
+        Err(TakeError::LoopAt(gate)) => Reply::LoopAt(gate),
         // never given: the table reads whole, and the arrays have the lengths that `take_table` asks
-        Taking::Refused(_) => Reply::Room,
-        Taking::TooShort => Reply::Room,
+        Err(TakeError::Refused(_)) => Reply::Room,
+        Err(TakeError::TooShort) => Reply::Room,
     }
 }

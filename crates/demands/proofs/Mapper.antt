@@ -10,8 +10,8 @@ use Rattle.theory.specs.paper.Net.{Net, Gate}
 use Rattle.theory.specs.paper.Walk.{Loop, LowestLoop, NoLoop}
 use Rattle.theory.specs.paper.Cover.{Label}
 use Rattle.drawing.specs.declared.Refusal.{Refusal}
-use Rattle.drawing.specs.declared.Verdict.{Verdict}
-use Rattle.drawing.specs.declared.Verdict.TheVariants.{Sound, Refused as RefusedFor}
+use Rattle.drawing.specs.paper.Fields.{Verdict}
+use Rattle.std.specs.Prelude.{Ok, Err}
 use Rattle.drawing.specs.paper.Fields.{head_k, head_i}
 use Rattle.drawing.specs.paper.Table.{net_of, tables_of}
 use Rattle.drawing.specs.paper.Reading.{found, table_of}
@@ -44,10 +44,10 @@ use Rattle.keeping.proofs.Tables.{bounded, outputs_are_nodes, nodes_few, nodes_a
 -- Words that tell replies apart
 
 abbrev is_sound : Verdict → Bool
-is_sound Sound = true
-is_sound (RefusedFor x) = false
+is_sound (Ok _) = true
+is_sound (Err x) = false
 
-pub sound_not_refused : {v : Verdict} {x : Refusal} → v ≡ Sound → v ≡ RefusedFor x → ⊥
+pub sound_not_refused : {v : Verdict} {x : Refusal} → v ≡ Ok tt → v ≡ Err x → ⊥
 sound_not_refused whole faulty = true≢false (ap is_sound (sym whole ∙ faulty))
 
 -- a gate on a loop, and no such gate

@@ -2,11 +2,12 @@
 use mathlib.Core.Path.{◌≡◌, refl, ap, sym, ◌∙◌}
 use mathlib.Core.Bool.{Bool, ◌||◌, or_assoc}
 use mathlib.Core.List.{List, [], ◌∷◌, ◌++◌}
-use Prim.Native.Nat.{ℕ, ◌+◌, ◌*◌, ◌^◌, ◌<◌, ◌≤◌}
+use Prim.Native.Nat.{ℕ, ◌+◌, ◌-◌, ◌*◌, ◌^◌, ◌<◌, ◌≤◌}
 use native.Mathlib.Omega.{arith}
 use lib.Dec.{leb}
 use lib.Pow.{pow-add, pow_mono}
-use lib.ListN.{length, get_or, take, drop}
+use lib.ListN.{length, get_or, take, drop, length-take, length-drop}
+use lib.Seq.{get_or-take, get_or-drop}
 use Rattle.storage.proofs.Entries.{take_more}
 use Rattle.drawing.specs.paper.Bytes.{high_first, number_at, some_from}
 
@@ -22,6 +23,13 @@ number_none s at = refl
 pub number_more : (s : List ℕ) (at i : ℕ) → at + i < length s → number_at s at (i + 1) ≡ number_at s at i * 256 + get_or s (at + i) 0
 unfolding number_at
 number_more s at i h = ap (high_first 0) (take_more s at i h) ∙ high_first_more 0 (take i (drop at s)) (get_or s (at + i) 0) ∙ omega arith
+
+-- a run of bytes: how many, and which
+pub run_size : (s : List ℕ) (at size : ℕ) → at + size ≤ length s → length (take (at + size - at) (drop at s)) ≡ size
+run_size s at size inside = omega (arith, length-take (at + size - at) (drop at s), length-drop at s)
+
+pub run_byte : (s : List ℕ) (at size i : ℕ) → i < size → get_or (take (at + size - at) (drop at s)) i 0 ≡ get_or s (at + i) 0
+run_byte s at size i low = get_or-take (at + size - at) (drop at s) i 0 (omega arith) ∙ get_or-drop at s i 0
 
 pub byte_room : (n i b : ℕ) → n < 2 ^ (8 * i) → b < 256 → n * 256 + b < 2 ^ (8 * (i + 1))
 byte_room n i b small byte =

@@ -9,19 +9,16 @@ use lib.Seq.{sets}
 use borrow.Author.Tests.{eq-eqb, ne_eqb}
 use Rattle.drawing.specs.declared.TableForm.{TableForm}
 use Rattle.drawing.specs.declared.Refusal.{Refusal}
-use Rattle.drawing.specs.declared.Verdict.{Verdict}
-use Rattle.drawing.specs.declared.Verdict.TheVariants.{Sound, Refused}
-use Rattle.drawing.specs.declared.filling.Ended.{Ended}
-use Rattle.drawing.specs.declared.filling.Ended.TheVariants.{At, RefusedFor}
+use Rattle.std.specs.Prelude.{Ok, Err}
 use Rattle.drawing.specs.paper.Limits.{most_outputs, rows_size}
 use Rattle.drawing.specs.paper.Bytes.{length_at, value_at, number_at, ids_at}
 use Rattle.drawing.specs.paper.Forms.{gates_start}
 use Rattle.drawing.specs.Forms.{Formed}
-use Rattle.drawing.specs.paper.Fields.{gate_m, gate_ids, gate_at, gate_verdict, output_verdict, output_id}
+use Rattle.drawing.specs.paper.Fields.{Verdict, gate_m, gate_ids, gate_at, gate_verdict, output_verdict, output_id}
 use Rattle.drawing.specs.paper.Reading.{gates_from, OutputsFound, outputs_from, no_more, with_output}
 use Rattle.drawing.specs.Reading.{Lines, lines_of, no_fanins, put_gate, put_gates}
-use Rattle.drawing.specs.Filling.{end_of, GateRead, gates_done, end_of_outputs}
-use Rattle.drawing.proofs.Ids.{length_ids, ids_none, ids_step, one_less}
+use Rattle.drawing.specs.Filling.{Ended, end_of, GateRead, gates_done, end_of_outputs}
+use Rattle.drawing.proofs.Ids.{length_ids, ids_left, ids_step}
 use Rattle.drawing.proofs.SoundFields.{gate_sound, output_sound}
 
 -- The stores of a gate's line, as the code makes them: the number of its fanins, the fanins behind it, and the table.
@@ -51,35 +48,35 @@ no_fanins_length fanins zero = refl
 no_fanins_length fanins (suc v) = length-set (no_fanins fanins v) (7 * v) 0 ∙ no_fanins_length fanins v
 
 -- How a run ended tells the ruling.
-pub ended_refused : (v : Verdict) (next : ℕ) {x : Refusal} → end_of v next ≡ RefusedFor x → v ≡ Refused x
-ended_refused Sound next e = let z : ◌≡◌ {A = ℕ} 0 1 = cc in absurd (omega arith)
-ended_refused (Refused r) next e = cc
+pub ended_refused : (v : Verdict) (next : ℕ) {x : Refusal} → end_of v next ≡ Err x → v ≡ Err x
+ended_refused (Ok _) next e = let z : ◌≡◌ {A = ℕ} 0 1 = cc in absurd (omega arith)
+ended_refused (Err r) next e = cc
 
-pub ended_at : (v : Verdict) (next : ℕ) {n : ℕ} → end_of v next ≡ At n → (v ≡ Sound) × (next ≡ n)
-ended_at Sound next e = (refl, cc)
-ended_at (Refused r) next e = let z : ◌≡◌ {A = ℕ} 0 1 = cc in absurd (omega arith)
+pub ended_at : (v : Verdict) (next : ℕ) {n : ℕ} → end_of v next ≡ Ok n → (v ≡ Ok tt) × (next ≡ n)
+ended_at (Ok _) next e = (refl, cc)
+ended_at (Err r) next e = let z : ◌≡◌ {A = ℕ} 0 1 = cc in absurd (omega arith)
 
-pub not_ended : {x : Refusal} {n : ℕ} → RefusedFor x ≡ At n → ⊥
+pub not_ended : {x : Refusal} {n : ℕ} → ◌≡◌ {A = Ended} (Err x) (Ok n) → ⊥
 not_ended e = let z : ◌≡◌ {A = ℕ} 0 1 = cc in omega arith
 
-pub same_end : {m n : ℕ} → At m ≡ At n → m ≡ n
+pub same_end : {m n : ℕ} → ◌≡◌ {A = Ended} (Ok m) (Ok n) → m ≡ n
 same_end e = cc
 
 module _ (form : TableForm) (s : List ℕ) (k nodes : ℕ) (a : Lines) (v at : ℕ) where
-  pub gates_none : nodes ≤ v → gates_done form s k nodes a v at ≡ record { lines = a; verdict = Sound; next = at }
+  pub gates_none : nodes ≤ v → gates_done form s k nodes a v at ≡ record { lines = a; verdict = Ok tt; next = at }
   unfolding gates_from put_gates
   gates_none h =
       let none : nodes - v ≡ 0 = omega arith in
       rw none
 
-  gates_refused : {r : Refusal} → v < nodes → gate_verdict form s at k nodes ≡ Refused r →
-      gates_done form s k nodes a v at ≡ record { lines = a; verdict = Refused r; next = at }
+  gates_refused : {r : Refusal} → v < nodes → gate_verdict form s at k nodes ≡ Err r →
+      gates_done form s k nodes a v at ≡ record { lines = a; verdict = Err r; next = at }
   unfolding gates_from put_gates
   gates_refused h e =
       let due : nodes - v ≡ suc (nodes - (v + 1)) = omega arith in
       rw (due, e)
 
-  gates_sound : v < nodes → gate_verdict form s at k nodes ≡ Sound →
+  gates_sound : v < nodes → gate_verdict form s at k nodes ≡ Ok tt →
       gates_done form s k nodes a v at ≡ gates_done form s k nodes (put_gate a v (gate_at form s at)) (v + 1) (value_at at + length_at s at)
   unfolding gates_from put_gates
   gates_sound h e =
@@ -88,13 +85,13 @@ module _ (form : TableForm) (s : List ℕ) (k nodes : ℕ) (a : Lines) (v at : �
       rw (due, e, next)
 
   module _ {r : Ended} {a' : Lines} (read : GateRead form a s at k nodes v r a') (more : v < nodes) where
-    pub gates_stop : {x : Refusal} → r ≡ RefusedFor x → gates_done form s k nodes a v at ≡ record { lines = a'; verdict = Refused x; next = at }
+    pub gates_stop : {x : Refusal} → r ≡ Err x → gates_done form s k nodes a v at ≡ record { lines = a'; verdict = Err x; next = at }
     gates_stop {x} e =
         let ruled = ended_refused (gate_verdict form s at k nodes) (value_at at + length_at s at) (sym read.reply ∙ e) in
         let kept : a' ≡ a = read.lines ∙ rw ruled in
         rw kept (gates_refused more ruled)
 
-    pub gates_turn : {next : ℕ} → Formed form → at ≤ length s → r ≡ At next →
+    pub gates_turn : {next : ℕ} → Formed form → at ≤ length s → r ≡ Ok next →
         (gates_done form s k nodes a v at ≡ gates_done form s k nodes a' (v + 1) next) × (next ≤ length s)
     gates_turn {next} formed inside e =
         let ruled = ended_at (gate_verdict form s at k nodes) (value_at at + length_at s at) (sym read.reply ∙ e) in
@@ -102,28 +99,25 @@ module _ (form : TableForm) (s : List ℕ) (k nodes : ℕ) (a : Lines) (v at : �
         let fits = gate_sound form s formed at k nodes inside ruled.0 in
         (rw (stored, ← ruled.1) (gates_sound more ruled.0), omega (arith, ruled.1))
 
--- What the gates' loop keeps: the arrays' lengths, and that reading from here gives what reading from the start gives.
+-- What the gates' loop keeps: that reading from here gives what reading from the start gives.
 pub record GatesLeft (form : TableForm) (s : List ℕ) (k inputs nodes : ℕ) (a₀ a : Lines) (v at : ℕ) : Type 0 where
-  pub passed : v ≤ nodes
   pub inside : at ≤ length s
-  pub fanins : length a.fanins ≡ length a₀.fanins
-  pub rows : length a.rows ≡ length a₀.rows
   pub same : gates_done form s k nodes a₀ inputs (gates_start form) ≡ gates_done form s k nodes a v at
 
 module _ (form : TableForm) (s : List ℕ) (nodes : ℕ) where
-  outputs_end : (room at : ℕ) → at ≡ length s → outputs_from form s nodes room at ≡ no_more Sound
+  outputs_end : (room at : ℕ) → at ≡ length s → outputs_from form s nodes room at ≡ no_more (Ok tt)
   unfolding outputs_from
   outputs_end zero at e = rw (eq-eqb at (length s) e)
   outputs_end (suc room) at e = rw (eq-eqb at (length s) e)
 
-  outputs_refused : (room at : ℕ) {r : Refusal} → at < length s → output_verdict form s at room nodes ≡ Refused r →
-      outputs_from form s nodes room at ≡ no_more (Refused r)
+  outputs_refused : (room at : ℕ) {r : Refusal} → at < length s → output_verdict form s at room nodes ≡ Err r →
+      outputs_from form s nodes room at ≡ no_more (Err r)
   unfolding outputs_from
   outputs_refused zero at h e = rw (ne_eqb at (length s) (omega arith), e)
   outputs_refused (suc room) at h e = rw (ne_eqb at (length s) (omega arith), e)
 
-  outputs_sound : (room at : ℕ) → at < length s → output_verdict form s at (suc room) nodes ≡ Sound →
-      outputs_from form s nodes (suc room) at ≡ with_output Sound (output_id form s at) (outputs_from form s nodes room (value_at at + form.width))
+  outputs_sound : (room at : ℕ) → at < length s → output_verdict form s at (suc room) nodes ≡ Ok tt →
+      outputs_from form s nodes (suc room) at ≡ with_output (Ok tt) (output_id form s at) (outputs_from form s nodes room (value_at at + form.width))
   unfolding outputs_from
   outputs_sound room at h e = rw (ne_eqb at (length s) (omega arith), e)
 
@@ -131,15 +125,14 @@ module _ (form : TableForm) (s : List ℕ) (nodes : ℕ) where
 pub record OutputsLeft (form : TableForm) (s : List ℕ) (nodes start : ℕ) (outputs₀ outputs : List ℕ) (at i : ℕ) : Type 0 where
   pub few : i ≤ most_outputs
   pub inside : at ≤ length s
-  pub size : length outputs ≡ length outputs₀
   pub reply : end_of_outputs (outputs_from form s nodes most_outputs start) 0 ≡ end_of_outputs (outputs_from form s nodes (most_outputs - i) at) i
   pub stored : sets outputs₀ 0 (outputs_from form s nodes most_outputs start).outputs ≡
       sets outputs i (outputs_from form s nodes (most_outputs - i) at).outputs
 
 module _ (form : TableForm) (s : List ℕ) (nodes start : ℕ) (outputs₀ outputs : List ℕ) (at i : ℕ)
     (left : OutputsLeft form s nodes start outputs₀ outputs at i) where
-  pub outputs_stop : {r : Refusal} → at < length s → output_verdict form s at (most_outputs - i) nodes ≡ Refused r →
-      (RefusedFor r ≡ end_of_outputs (outputs_from form s nodes most_outputs start) 0) ×
+  pub outputs_stop : {r : Refusal} → at < length s → output_verdict form s at (most_outputs - i) nodes ≡ Err r →
+      (Err r ≡ end_of_outputs (outputs_from form s nodes most_outputs start) 0) ×
       (outputs ≡ sets outputs₀ 0 (outputs_from form s nodes most_outputs start).outputs)
   outputs_stop {r} h e =
       let ends = outputs_refused form s nodes (most_outputs - i) at h e in (
@@ -149,28 +142,27 @@ module _ (form : TableForm) (s : List ℕ) (nodes start : ℕ) (outputs₀ outpu
       )
 
   pub outputs_all : at ≡ length s →
-      (At i ≡ end_of_outputs (outputs_from form s nodes most_outputs start) 0) ×
+      (Ok i ≡ end_of_outputs (outputs_from form s nodes most_outputs start) 0) ×
       (outputs ≡ sets outputs₀ 0 (outputs_from form s nodes most_outputs start).outputs)
   outputs_all e =
       let ends = outputs_end form s nodes (most_outputs - i) at e in
       let none : i + 0 ≡ i = omega arith in (
-        sym (left.reply ∙ ap (λ (f : OutputsFound). end_of_outputs f i) ends ∙ ap At none),
+        sym (left.reply ∙ ap (λ (f : OutputsFound). end_of_outputs f i) ends ∙ ap Ok none),
         sym
             (left.stored ∙ ap (λ (f : OutputsFound). sets outputs i f.outputs) ends),
       )
 
-  pub outputs_turn : at < length s → output_verdict form s at (most_outputs - i) nodes ≡ Sound →
+  pub outputs_turn : at < length s → output_verdict form s at (most_outputs - i) nodes ≡ Ok tt →
       OutputsLeft form s nodes start outputs₀ (set outputs i (output_id form s at)) (value_at at + form.width) (i + 1)
   outputs_turn h e =
       let sound = output_sound form s at (most_outputs - i) nodes left.inside e in
       let room : most_outputs - i ≡ suc (most_outputs - (i + 1)) = omega arith in
-      let here : outputs_from form s nodes (most_outputs - i) at ≡ with_output Sound (output_id form s at)
+      let here : outputs_from form s nodes (most_outputs - i) at ≡ with_output (Ok tt) (output_id form s at)
       (outputs_from form s nodes (most_outputs - (i + 1)) (value_at at + form.width)) =
       rw room (outputs_sound form s nodes (most_outputs - (i + 1)) at h (rw room at e)) in
       record {
         few = omega arith;
         inside = sound.whole;
-        size = length-set outputs i (output_id form s at) ∙ left.size;
         reply =
             left.reply
             ∙ ap (λ (f : OutputsFound). end_of_outputs f i) here
@@ -184,27 +176,13 @@ module _ (form : TableForm) (s : List ℕ) (nodes start : ℕ) (outputs₀ outpu
       }
 
 -- What the loop that stores ids keeps.
-pub record IdsLeft (s : List ℕ) (at width count : ℕ) (ids₀ : List ℕ) (to : ℕ) (ids : List ℕ) (next place left : ℕ) : Type 0 where
-  pub inside : next + left * width ≤ length s
-  pub room : place + left ≤ length ids
-  pub size : length ids ≡ length ids₀
-  pub stored : sets ids₀ to (ids_at s at width count) ≡ sets ids place (ids_at s next width left)
+abbrev pub IdsLeft : (s : List ℕ) (at width count : ℕ) (ids₀ : List ℕ) (to : ℕ) (ids : List ℕ) (i : ℕ) → Type 0
+IdsLeft s at width count ids₀ to ids i = sets ids₀ to (ids_at s at width count) ≡ sets ids (to + i) (ids_left s at width count i)
 
-module _ {s : List ℕ} {at width count : ℕ} {ids₀ : List ℕ} {to : ℕ} {ids : List ℕ} {next place left : ℕ}
-    (kept : IdsLeft s at width count ids₀ to ids next place left) where
-  pub ids_turn : {id : ℕ} → 0 < left → id ≡ number_at s next width →
-      IdsLeft s at width count ids₀ to (set ids place id) (next + width) (place + 1) (left - 1)
+module _ (s : List ℕ) (at width count : ℕ) (ids₀ : List ℕ) (to : ℕ) (ids : List ℕ) (i : ℕ) (kept : IdsLeft s at width count ids₀ to ids i) where
+  pub ids_turn : {id : ℕ} → i < count → id ≡ number_at s (at + i * width) width → IdsLeft s at width count ids₀ to (set ids (to + i) id) (i + 1)
   ids_turn {id} some read =
-      record {
-        inside = omega (arith, kept.inside, one_less left width some);
-        room = omega (arith, kept.room, length-set ids place id);
-        size = length-set ids place id ∙ kept.size;
-        stored =
-            kept.stored
-            ∙ ap (sets ids place) (ids_step s next width left some)
-            ∙ ap (λ (v : ℕ). sets (set ids place v) (suc place) (ids_at s (next + width) width (left - 1))) (sym read)
-            ∙ ap (λ (p : ℕ). sets (set ids place id) p (ids_at s (next + width) width (left - 1))) (sym (add-one place));
-      }
-
-  pub ids_all : left ≤ 0 → ids ≡ sets ids₀ to (ids_at s at width count)
-  ids_all none = sym (kept.stored ∙ ap (sets ids place) (ids_none s next width left none))
+      kept
+      ∙ ap (sets ids (to + i)) (ids_step s at width count i some)
+      ∙ ap (λ (v : ℕ). sets (set ids (to + i) v) (suc (to + i)) (ids_left s at width count (i + 1))) (sym read)
+      ∙ ap (λ (p : ℕ). sets (set ids (to + i) id) p (ids_left s at width count (i + 1))) (omega arith)

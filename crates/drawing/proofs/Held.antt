@@ -17,8 +17,8 @@ use Rattle.storage.specs.Lists.{size_at, list_at, ListsIn}
 use Rattle.storage.specs.Drawings.{net_in, tables_in}
 use Rattle.storage.proofs.Stores.{stored_at, stored_run}
 use Rattle.storage.proofs.InLists.{put_size, put_list, put_other_size, put_other}
-use Rattle.drawing.specs.declared.Verdict.{Verdict}
-use Rattle.drawing.specs.declared.Verdict.TheVariants.{Sound, Refused}
+use Rattle.drawing.specs.paper.Fields.{Verdict}
+use Rattle.std.specs.Prelude.{Ok, Err}
 use Rattle.drawing.specs.paper.Limits.{most_k, most_nodes}
 use Rattle.drawing.specs.paper.Table.{GateLine, Table, no_gate, line_of, net_of, tables_of}
 use Rattle.drawing.specs.paper.Fields.{head_k, head_i, head_verdict}
@@ -204,13 +204,13 @@ module _ (a : Lines) (k inputs : ℕ) (gs : List GateLine) (sound : SoundLines k
         nodes = λ g gate v m. (line_at g gate).nodes_only v m;
       }
 
-sound_head_of : (s : List ℕ) → (found s).verdict ≡ Sound → head_verdict s ≡ Sound
+sound_head_of : (s : List ℕ) → (found s).verdict ≡ Ok tt → head_verdict s ≡ Ok tt
 unfolding found
 sound_head_of s e = by (head_verdict s) e
   where
-    by : (v : Verdict) → (after_head s v).verdict ≡ Sound → v ≡ Sound
-    by Sound e = refl
-    by (Refused r) e = absurd (not_sound r e)
+    by : (v : Verdict) → (after_head s v).verdict ≡ Ok tt → v ≡ Ok tt
+    by (Ok _) e = refl
+    by (Err r) e = absurd (not_sound r e)
 
 -- What the arrays hold after a whole reading: the table's net, its tables and its outputs; other entries of `outputs` are as before.
 pub record Holds (s : List ℕ) (after : Arrays) : Type 0 where
@@ -220,7 +220,7 @@ pub record Holds (s : List ℕ) (after : Arrays) : Type 0 where
   pub bounded : Bounded (net_of (table_of s)) (head_k s)
   pub lists : ListsIn (nodes_of s) after.lines.fanins
 
-pub whole_holds : (a : Arrays) (s : List ℕ) → enough a ≡ true → (found s).verdict ≡ Sound → Holds s (filled a s)
+pub whole_holds : (a : Arrays) (s : List ℕ) → enough a ≡ true → (found s).verdict ≡ Ok tt → Holds s (filled a s)
 unfolding filled after table
 whole_holds a s long ruled =
     let sound = table_sound s ruled in

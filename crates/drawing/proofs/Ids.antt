@@ -3,7 +3,7 @@ use Prim.Native.Nat.{ℕ, zero, suc, ◌+◌, ◌*◌, ◌-◌, ◌<◌, ◌≤�
 use native.Mathlib.Nat.{add-zero, zero-mul, suc-mul, mul-le-mul_left}
 use native.Mathlib.Omega.{arith}
 use mathlib.Core.Path.{◌≡◌, refl, ap, sym, ◌∙◌}
-use mathlib.Core.Bool.{Bool, true, false, not, not-not}
+use mathlib.Core.Bool.{true, false}
 use mathlib.Core.List.{List, [], ◌∷◌}
 use borrow.Author.Tests.{le-leb, lt-leb}
 use lib.ListN.{length, get_or}
@@ -34,12 +34,6 @@ small_two s at {width} {high} {low} narrow more inside b c =
 pub twice : {width : ℕ} (n : ℕ) → Narrow width → n * width ≤ n + n
 twice n narrow = omega (arith, mul-le-mul_left n narrow.few)
 
-pub from_one : (left : ℕ) → 0 < left → left ≡ suc (left - 1)
-from_one left some = omega (arith, some)
-
-pub one_less : (left width : ℕ) → 0 < left → (left - 1) * width + width ≡ left * width
-one_less left width some = sym (ap (λ (n : ℕ). n * width) (from_one left some) ∙ suc-mul (left - 1) width)
-
 -- a count whose ids take the bytes of one id or more
 pub some_id : (count width : ℕ) → 1 ≤ width → width ≤ count * width → 1 ≤ count
 some_id zero width wide whole = absurd (omega (arith, zero-mul width))
@@ -49,32 +43,31 @@ pub length_ids : (s : List ℕ) (at width count : ℕ) → length (ids_at s at w
 length_ids s at width zero = refl
 length_ids s at width (suc count) = ap suc (length_ids s (at + width) width count)
 
-module _ (s : List ℕ) (at width left : ℕ) where
-  pub ids_none : left ≤ 0 → ids_at s at width left ≡ []
-  ids_none none = let z : left ≡ 0 = omega arith in ap (ids_at s at width) z
+-- the ids from the i-th on
+module _ (s : List ℕ) (at width count i : ℕ) where
+  abbrev pub ids_left : List ℕ
+  ids_left = ids_at s (at + i * width) width (count - i)
 
-  pub ids_step : 0 < left → ids_at s at width left ≡ number_at s at width ∷ ids_at s (at + width) width (left - 1)
-  ids_step some = ap (ids_at s at width) (from_one left some)
+  pub ids_none : count ≤ i → ids_left ≡ []
+  ids_none none = let z : count - i ≡ 0 = omega arith in ap (ids_at s (at + i * width) width) z
+
+  pub ids_step : i < count → ids_left ≡ number_at s (at + i * width) width ∷ ids_at s (at + (i + 1) * width) width (count - (i + 1))
+  ids_step some =
+      let n : count - i ≡ suc (count - (i + 1)) = omega arith in
+      let next : at + i * width + width ≡ at + (i + 1) * width = omega (arith, suc-mul i width) in
+      ap (ids_at s (at + i * width) width) n
+      ∙ ap (λ (p : ℕ). number_at s (at + i * width) width ∷ ids_at s p width (count - (i + 1))) next
 
   module _ (nodes : ℕ) where
-    pub below_none : left ≤ 0 → some_from nodes (ids_at s at width left) ≡ false
+    pub below_none : count ≤ i → some_from nodes ids_left ≡ false
     unfolding some_from
     below_none none = ap (some_from nodes) (ids_none none)
 
-    module _ {id : ℕ} (some : 0 < left) (read : SmallAt s at width id) where
-      pub below_stop : nodes ≤ id → some_from nodes (ids_at s at width left) ≡ true
+    module _ {id : ℕ} (some : i < count) (read : SmallAt s (at + i * width) width id) where
+      pub below_stop : nodes ≤ id → some_from nodes ids_left ≡ true
       unfolding some_from
-      below_stop large = ap (some_from nodes) (ids_step some) ∙ rw (le-leb nodes (number_at s at width) (omega (arith, read.number)))
+      below_stop large = ap (some_from nodes) (ids_step some) ∙ rw (le-leb nodes (number_at s (at + i * width) width) (omega (arith, read.number)))
 
-      pub below_next : id < nodes → some_from nodes (ids_at s at width left) ≡ some_from nodes (ids_at s (at + width) width (left - 1))
+      pub below_next : id < nodes → some_from nodes ids_left ≡ some_from nodes (ids_at s (at + (i + 1) * width) width (count - (i + 1)))
       unfolding some_from
-      below_next small = ap (some_from nodes) (ids_step some) ∙ rw (lt-leb nodes (number_at s at width) (omega (arith, read.number)))
-
--- what a test of the ids says of the same ids, counted by another name of the count
-pub ids_tested :
-    (n : ℕ) (s : List ℕ) (at width : ℕ) {count m : ℕ} {below : Bool} → below ≡ not (some_from n (ids_at s at width count)) → count ≡ m →
-    some_from n (ids_at s at width m) ≡ not below
-ids_tested n s at width {count} {m} {below} tested same =
-    ap (λ (i : ℕ). some_from n (ids_at s at width i)) (sym same)
-    ∙ sym (not-not (some_from n (ids_at s at width count)))
-    ∙ ap not (sym tested)
+      below_next small = ap (some_from nodes) (ids_step some) ∙ rw (lt-leb nodes (number_at s (at + i * width) width) (omega (arith, read.number)))

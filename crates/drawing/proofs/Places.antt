@@ -12,8 +12,8 @@ use lib.Dec.{ltb, eqb}
 use Rattle.drawing.specs.declared.TableForm.{TableForm}
 use Rattle.drawing.specs.declared.Refusal.{Refusal}
 use Rattle.drawing.specs.declared.Refusal.TheVariants.{Outputs}
-use Rattle.drawing.specs.declared.Verdict.{Verdict}
-use Rattle.drawing.specs.declared.Verdict.TheVariants.{Sound, Refused}
+use Rattle.drawing.specs.paper.Fields.{Verdict}
+use Rattle.std.specs.Prelude.{Ok, Err}
 use Rattle.drawing.specs.paper.Limits.{most_outputs, frame_size}
 use Rattle.drawing.specs.Refusals.{place}
 use Rattle.drawing.specs.paper.Rules.{Rule, ◌⇒◌, first}
@@ -40,8 +40,8 @@ farthest = farthest_of narrow_table
 
 -- the place that a verdict names, and another where it is sound
 abbrev place_or : ℕ → Verdict → ℕ
-place_or other Sound = other
-place_or other (Refused r) = place r
+place_or other (Ok _) = other
+place_or other (Err r) = place r
 
 -- what is so of each reply of a list of rules, and of no rule's, is so of the first
 abbrev pub EachReply : {R : Type 0} → (R → Type 0) → List (Rule R) → Type 0
@@ -61,23 +61,23 @@ head_place : (s : List ℕ) → At 0 (head_verdict s)
 unfolding head_verdict
 head_place s =
     let form = form_of s in
-    first_so (At 0) Sound (frame_rules s 0 form.head false ++ head_rules form s) refl
+    first_so (At 0) (Ok tt) (frame_rules s 0 form.head false ++ head_rules form s) refl
     (refl, (refl, (refl, (refl, (refl, (refl, (refl, tt)))))))
 
 module _ (form : TableForm) (s : List ℕ) where
   gate_place : (at k nodes : ℕ) → At at (gate_verdict form s at k nodes)
   unfolding gate_verdict
   gate_place at k nodes =
-      first_so (At at) Sound (frame_rules s at form.gate false ++ gate_rules form s at k nodes) refl
+      first_so (At at) (Ok tt) (frame_rules s at form.gate false ++ gate_rules form s at k nodes) refl
       (refl, (refl, (refl, (refl, (refl, (refl, (refl, tt)))))))
 
   output_place : (at room nodes : ℕ) → At at (output_verdict form s at room nodes)
   unfolding output_verdict
   output_place at room nodes =
-      first_so (At at) Sound (frame_rules s at form.output (eqb room 0) ++ output_rules form s at nodes) refl
+      first_so (At at) (Ok tt) (frame_rules s at form.output (eqb room 0) ++ output_rules form s at nodes) refl
       (refl, (refl, (refl, (refl, (refl, (refl, (refl, tt)))))))
 
-  gate_short : (at k nodes : ℕ) → gate_verdict form s at k nodes ≡ Sound → length_at s at ≤ most_gate form
+  gate_short : (at k nodes : ℕ) → gate_verdict form s at k nodes ≡ Ok tt → length_at s at ≤ most_gate form
   unfolding gate_verdict
   gate_short at k nodes e =
       let long = length_at s at in
@@ -98,17 +98,17 @@ module _ (form : TableForm) (s : List ℕ) where
       by : (v : Verdict) → gate_verdict form s at k nodes ≡ v →
           place_or rest.next rest.verdict ≤ value_at at + length_at s at + due * gate_bytes form →
           place_or (with_gate v (gate_at form s at) at rest).next (with_gate v (gate_at form s at) at rest).verdict ≤ at + suc due * gate_bytes form
-      by Sound ruled later = omega (arith, later, gate_short at k nodes ruled, suc-mul due (gate_bytes form))
-      by (Refused r) ruled later = omega (arith, ap (place_or at) (sym ruled) ∙ gate_place at k nodes)
+      by (Ok _) ruled later = omega (arith, later, gate_short at k nodes ruled, suc-mul due (gate_bytes form))
+      by (Err r) ruled later = omega (arith, ap (place_or at) (sym ruled) ∙ gate_place at k nodes)
 
   outputs_place : (nodes room at : ℕ) → place_or 0 (outputs_from form s nodes room at).verdict ≤ at + room * output_bytes form
   unfolding outputs_from
   outputs_place nodes zero at = by (eqb at (length s)) (output_verdict form s at zero nodes) (output_place at zero nodes)
     where
-      by : (ended : Bool) (v : Verdict) → place_or at v ≡ at → place_or 0 (cond ended (no_more Sound) (no_more v)).verdict ≤ at + 0 * output_bytes form
+      by : (ended : Bool) (v : Verdict) → place_or at v ≡ at → place_or 0 (cond ended (no_more (Ok tt)) (no_more v)).verdict ≤ at + 0 * output_bytes form
       by true v named = omega arith
-      by false Sound named = omega arith
-      by false (Refused r) named = omega (arith, named)
+      by false (Ok _) named = omega arith
+      by false (Err r) named = omega (arith, named)
   outputs_place nodes (suc room) at =
       by (eqb at (length s)) (output_verdict form s at (suc room) nodes) (output_place at (suc room) nodes)
       (outputs_place nodes room (value_at at + form.width))
@@ -118,10 +118,10 @@ module _ (form : TableForm) (s : List ℕ) where
 
       by : (ended : Bool) (v : Verdict) → place_or at v ≡ at →
           place_or 0 rest.verdict ≤ value_at at + form.width + room * output_bytes form →
-          place_or 0 (cond ended (no_more Sound) (with_output v (output_id form s at) rest)).verdict ≤ at + suc room * output_bytes form
+          place_or 0 (cond ended (no_more (Ok tt)) (with_output v (output_id form s at) rest)).verdict ≤ at + suc room * output_bytes form
       by true v named later = omega arith
-      by false Sound named later = omega (arith, later, suc-mul room (output_bytes form))
-      by false (Refused r) named later = omega (arith, named)
+      by false (Ok _) named later = omega (arith, later, suc-mul room (output_bytes form))
+      by false (Err r) named later = omega (arith, named)
 
   -- "number of bytes, or that field's start"
   ends_place : (nodes at : ℕ) → place_or 0 (outputs_at form s nodes at).verdict ≤ at + most_outputs * output_bytes form
@@ -131,7 +131,7 @@ module _ (form : TableForm) (s : List ℕ) where
       last = outputs_from form s nodes most_outputs at
 
       by : (ended : Bool) → eqb at (length s) ≡ ended → place_or 0 last.verdict ≤ at + most_outputs * output_bytes form →
-          place_or 0 (cond ended (no_more (Refused (Outputs (length s)))) last).verdict ≤ at + most_outputs * output_bytes form
+          place_or 0 (cond ended (no_more (Err (Outputs (length s)))) last).verdict ≤ at + most_outputs * output_bytes form
       by true same later = omega (arith, eqb-true at (length s) same)
       by false same later = omega (arith, later)
 
@@ -142,15 +142,15 @@ found_place s = by_head (head_verdict s) refl
     by_gates : (v : Verdict) → (gates_of s).verdict ≡ v → head_g s ≤ (form_of s).most →
         place_or (gates_of s).next v ≤ gates_start (form_of s) + head_g s * gate_bytes (form_of s) →
         place_or 0 (after_gates s v (gates_of s)).verdict ≤ farthest
-    by_gates Sound ruled few later = omega (arith, few, later, ends_place (form_of s) s (nodes_of s) (gates_of s).next)
-    by_gates (Refused r) ruled few later = omega (arith, few, later)
+    by_gates (Ok _) ruled few later = omega (arith, few, later, ends_place (form_of s) s (nodes_of s) (gates_of s).next)
+    by_gates (Err r) ruled few later = omega (arith, few, later)
 
     by_head : (v : Verdict) → head_verdict s ≡ v → place_or 0 (after_head s v).verdict ≤ farthest
-    by_head Sound ruled =
+    by_head (Ok _) ruled =
         let sound = head_sound s ruled in
         by_gates (gates_of s).verdict refl (omega (arith, sound.nodes_most))
         (gates_place (form_of s) s _ (nodes_of s) (head_g s) (gates_start (form_of s)))
-    by_head (Refused r) ruled = omega (arith, ap (place_or 0) (sym ruled) ∙ head_place s)
+    by_head (Err r) ruled = omega (arith, ap (place_or 0) (sym ruled) ∙ head_place s)
 
-pub refused_place : (s : List ℕ) {r : Refusal} → (found s).verdict ≡ Refused r → place r ≤ farthest
+pub refused_place : (s : List ℕ) {r : Refusal} → (found s).verdict ≡ Err r → place r ≤ farthest
 refused_place s {r} e = omega (arith, found_place s, ap (place_or 0) e)

@@ -8,7 +8,7 @@ use borrow.Author.Tests.{ltb-false, leb-false, eqb-true, not-false}
 use lib.ListN.{length, get_or}
 use lib.Dec.{ltb, eqb}
 use Rattle.drawing.specs.declared.TableForm.{TableForm}
-use Rattle.drawing.specs.declared.Verdict.TheVariants.{Sound}
+use Rattle.std.specs.Prelude.{Ok}
 use Rattle.drawing.specs.paper.Limits.{least_k, most_k, least_inputs, most_inputs, version, frame_size}
 use Rattle.drawing.specs.paper.Bytes.{length_at, value_at, some_from}
 use Rattle.drawing.specs.paper.Forms.{form_of, gates_start, gate_size, least_gate, most_gate}
@@ -35,7 +35,7 @@ pub record SoundHead (s : List ℕ) : Type 0 where
   pub nodes_least : (form_of s).least ≤ head_i s + head_g s
   pub nodes_most : head_i s + head_g s ≤ (form_of s).most
 
-pub head_sound : (s : List ℕ) → head_verdict s ≡ Sound → SoundHead s
+pub head_sound : (s : List ℕ) → head_verdict s ≡ Ok tt → SoundHead s
 unfolding head_verdict
 head_sound s e =
     let form = form_of s in
@@ -67,7 +67,7 @@ module _ (form : TableForm) (s : List ℕ) where
     pub nodes_only : some_from nodes (gate_ids form s at) ≡ false
     pub rows : gate_table form s at < 2 ^ (2 ^ gate_m s at)
 
-  pub gate_sound : Formed form → (at k nodes : ℕ) → at ≤ length s → gate_verdict form s at k nodes ≡ Sound → SoundGate at k nodes
+  pub gate_sound : Formed form → (at k nodes : ℕ) → at ≤ length s → gate_verdict form s at k nodes ≡ Ok tt → SoundGate at k nodes
   unfolding gate_verdict
   gate_sound formed at k nodes inside e =
       let long = length_at s at in
@@ -91,7 +91,7 @@ module _ (form : TableForm) (s : List ℕ) where
     pub wanted : 1 ≤ room
     pub node : output_id form s at < nodes
 
-  pub output_sound : (at room nodes : ℕ) → at ≤ length s → output_verdict form s at room nodes ≡ Sound → SoundOutput at room nodes
+  pub output_sound : (at room nodes : ℕ) → at ≤ length s → output_verdict form s at room nodes ≡ Ok tt → SoundOutput at room nodes
   unfolding output_verdict
   output_sound at room nodes inside e =
       let rules = none_holds (frame_rules s at form.output (eqb room 0) ++ output_rules form s at nodes) tt e in

@@ -11,9 +11,9 @@ use lib.Dec.{eqb, leb}
 use lib.ListN.{length}
 use Rattle.storage.specs.declared.Numbers.{Numbers}
 use Rattle.drawing.specs.declared.Refusal.TheVariants.{Outputs}
-use Rattle.drawing.specs.declared.Verdict.{Verdict}
-use Rattle.drawing.specs.declared.Verdict.TheVariants.{Sound, Refused}
-use Rattle.drawing.specs.declared.Reading.TheVariants.{Whole, TooShort}
+use Rattle.drawing.specs.paper.Fields.{Verdict}
+use Rattle.std.specs.Prelude.{Ok, Err}
+use Rattle.drawing.specs.declared.ReadError.TheVariants.{TooShort}
 use Rattle.drawing.specs.declared.TableForm.{TableForm}
 use Rattle.drawing.specs.paper.Limits.{most_outputs}
 use Rattle.drawing.specs.paper.Bytes.{length_at, value_at, some_from}
@@ -57,7 +57,7 @@ module _ (form : TableForm) (s : List ℕ) where
     pub lines : SoundLines k nodes g.gates
     pub inside : g.next ≤ length s
 
-  gates_whole : Formed form → (k nodes due at : ℕ) → at ≤ length s → (gates_from form s k nodes due at).verdict ≡ Sound →
+  gates_whole : Formed form → (k nodes due at : ℕ) → at ≤ length s → (gates_from form s k nodes due at).verdict ≡ Ok tt →
       GatesWhole k nodes due (gates_from form s k nodes due at)
   unfolding gates_from
   gates_whole formed k nodes zero at inside e = record { size = refl; lines = SoundLines.none; inside = inside }
@@ -69,10 +69,10 @@ module _ (form : TableForm) (s : List ℕ) where
       rest : GatesFound
       rest = gates_from form s k nodes due next
 
-      by : (v : Verdict) → gate_verdict form s at k nodes ≡ v → (with_gate v (gate_at form s at) at rest).verdict ≡ Sound →
-          (next ≤ length s → rest.verdict ≡ Sound → GatesWhole k nodes due rest) →
+      by : (v : Verdict) → gate_verdict form s at k nodes ≡ v → (with_gate v (gate_at form s at) at rest).verdict ≡ Ok tt →
+          (next ≤ length s → rest.verdict ≡ Ok tt → GatesWhole k nodes due rest) →
           GatesWhole k nodes (suc due) (with_gate v (gate_at form s at) at rest)
-      by Sound ruled e later =
+      by (Ok _) ruled e later =
           let sound = gate_sound form s formed at k nodes inside ruled in
           let whole = later sound.whole e in
           record {
@@ -80,20 +80,20 @@ module _ (form : TableForm) (s : List ℕ) where
             lines = SoundLines.more (line_sound at k nodes sound) whole.lines;
             inside = whole.inside;
           }
-      by (Refused r) ruled e later = absurd (not_sound r e)
+      by (Err r) ruled e later = absurd (not_sound r e)
 
   record OutputsWhole (nodes room : ℕ) (o : OutputsFound) : Type 0 where
     pub few : length o.outputs ≤ room
     pub nodes_only : (v : ℕ) → Memᴰ v o.outputs → v < nodes
 
-  none_left : (nodes room : ℕ) → OutputsWhole nodes room (no_more Sound)
+  none_left : (nodes room : ℕ) → OutputsWhole nodes room (no_more (Ok tt))
   none_left nodes room = record { few = omega arith; nodes_only = λ v m. absurd (mathlib.Core.List.Memᴰ.not-nil m) }
 
   one_more : (nodes room at : ℕ) (rest : OutputsFound) (v : Verdict) → at ≤ length s → output_verdict form s at (suc room) nodes ≡ v →
-      (with_output v (output_id form s at) rest).verdict ≡ Sound →
-      (value_at at + form.width ≤ length s → rest.verdict ≡ Sound → OutputsWhole nodes room rest) →
+      (with_output v (output_id form s at) rest).verdict ≡ Ok tt →
+      (value_at at + form.width ≤ length s → rest.verdict ≡ Ok tt → OutputsWhole nodes room rest) →
       OutputsWhole nodes (suc room) (with_output v (output_id form s at) rest)
-  one_more nodes room at rest Sound inside ruled e later =
+  one_more nodes room at rest (Ok _) inside ruled e later =
       let sound = output_sound form s at (suc room) nodes inside ruled in
       let whole = later sound.whole e in
       record {
@@ -103,19 +103,19 @@ module _ (form : TableForm) (s : List ℕ) where
             (λ (h : Memᴰ v rest.outputs). whole.nodes_only v h)
             (mathlib.Core.List.Memᴰ.cases_cons m);
       }
-  one_more nodes room at rest (Refused r) inside ruled e later = absurd (not_sound r e)
+  one_more nodes room at rest (Err r) inside ruled e later = absurd (not_sound r e)
 
   -- with no room left an output field is refused
-  no_room : (nodes at : ℕ) → at ≤ length s → output_verdict form s at 0 nodes ≡ Sound → ⊥
+  no_room : (nodes at : ℕ) → at ≤ length s → output_verdict form s at 0 nodes ≡ Ok tt → ⊥
   no_room nodes at inside e = omega (arith, (output_sound form s at 0 nodes inside e).wanted)
 
-  outputs_whole : (nodes room at : ℕ) → at ≤ length s → (outputs_from form s nodes room at).verdict ≡ Sound →
+  outputs_whole : (nodes room at : ℕ) → at ≤ length s → (outputs_from form s nodes room at).verdict ≡ Ok tt →
       OutputsWhole nodes room (outputs_from form s nodes room at)
   unfolding outputs_from
   outputs_whole nodes zero at inside e = by (eqb at (length s)) e
     where
-      by : (b : Bool) → (cond b (no_more Sound) (no_more (output_verdict form s at zero nodes))).verdict ≡ Sound →
-          OutputsWhole nodes zero (cond b (no_more Sound) (no_more (output_verdict form s at zero nodes)))
+      by : (b : Bool) → (cond b (no_more (Ok tt)) (no_more (output_verdict form s at zero nodes))).verdict ≡ Ok tt →
+          OutputsWhole nodes zero (cond b (no_more (Ok tt)) (no_more (output_verdict form s at zero nodes)))
       by true e = none_left nodes zero
       by false e = absurd (no_room nodes at inside e)
   outputs_whole nodes (suc room) at inside e = by (eqb at (length s)) e (outputs_whole nodes room (value_at at + form.width))
@@ -126,13 +126,13 @@ module _ (form : TableForm) (s : List ℕ) where
       here : OutputsFound
       here = with_output (output_verdict form s at (suc room) nodes) (output_id form s at) rest
 
-      by : (b : Bool) → (cond b (no_more Sound) here).verdict ≡ Sound →
-          (value_at at + form.width ≤ length s → rest.verdict ≡ Sound → OutputsWhole nodes room rest) →
-          OutputsWhole nodes (suc room) (cond b (no_more Sound) here)
+      by : (b : Bool) → (cond b (no_more (Ok tt)) here).verdict ≡ Ok tt →
+          (value_at at + form.width ≤ length s → rest.verdict ≡ Ok tt → OutputsWhole nodes room rest) →
+          OutputsWhole nodes (suc room) (cond b (no_more (Ok tt)) here)
       by true e later = none_left nodes (suc room)
       by false e later = one_more nodes room at rest (output_verdict form s at (suc room) nodes) inside refl e later
 
-  some_output : (nodes at : ℕ) → (outputs_at form s nodes at).verdict ≡ Sound →
+  some_output : (nodes at : ℕ) → (outputs_at form s nodes at).verdict ≡ Ok tt →
       (outputs_from form s nodes most_outputs at ≡ outputs_at form s nodes at) × (1 ≤ length (outputs_at form s nodes at).outputs)
   unfolding outputs_from
   some_output nodes at e = by (eqb at (length s)) refl e
@@ -143,14 +143,14 @@ module _ (form : TableForm) (s : List ℕ) where
       here : OutputsFound
       here = with_output (output_verdict form s at most_outputs nodes) (output_id form s at) rest
 
-      some : (v : Verdict) → (with_output v (output_id form s at) rest).verdict ≡ Sound → 1 ≤ length (with_output v (output_id form s at) rest).outputs
-      some Sound e = omega arith
-      some (Refused r) e = absurd (not_sound r e)
+      some : (v : Verdict) → (with_output v (output_id form s at) rest).verdict ≡ Ok tt → 1 ≤ length (with_output v (output_id form s at) rest).outputs
+      some (Ok _) e = omega arith
+      some (Err r) e = absurd (not_sound r e)
 
       by : (b : Bool) → eqb at (length s) ≡ b →
-          (cond b (no_more (Refused (Outputs (length s)))) (cond b (no_more Sound) here)).verdict ≡ Sound →
-          (cond b (no_more Sound) here ≡ cond b (no_more (Refused (Outputs (length s)))) (cond b (no_more Sound) here))
-          × (1 ≤ length (cond b (no_more (Refused (Outputs (length s)))) (cond b (no_more Sound) here)).outputs)
+          (cond b (no_more (Err (Outputs (length s)))) (cond b (no_more (Ok tt)) here)).verdict ≡ Ok tt →
+          (cond b (no_more (Ok tt)) here ≡ cond b (no_more (Err (Outputs (length s)))) (cond b (no_more (Ok tt)) here))
+          × (1 ≤ length (cond b (no_more (Err (Outputs (length s)))) (cond b (no_more (Ok tt)) here)).outputs)
       by true same e = absurd (not_sound (Outputs (length s)) e)
       by false same e = (refl, some (output_verdict form s at most_outputs nodes) e)
 
@@ -163,9 +163,9 @@ pub record SoundTable (s : List ℕ) (f : Found) : Type 0 where
   pub few : length f.outputs ≤ most_outputs
   pub nodes_only : (v : ℕ) → Memᴰ v f.outputs → v < nodes_of s
 
-after_gates_sound : (s : List ℕ) → SoundHead s → (v : Verdict) → (gates_of s).verdict ≡ v → (after_gates s v (gates_of s)).verdict ≡ Sound →
+after_gates_sound : (s : List ℕ) → SoundHead s → (v : Verdict) → (gates_of s).verdict ≡ v → (after_gates s v (gates_of s)).verdict ≡ Ok tt →
     SoundTable s (after_gates s v (gates_of s))
-after_gates_sound s head Sound ruled e =
+after_gates_sound s head (Ok _) ruled e =
     let form = form_of s in
     let next = (gates_of s).next in
     let gates = gates_whole form s (formed_of s) (head_k s) (nodes_of s) (head_g s) (gates_start form) head.whole ruled in
@@ -174,28 +174,28 @@ after_gates_sound s head Sound ruled e =
     let ends : OutputsWhole form s (nodes_of s) most_outputs (outputs_at form s (nodes_of s) next) =
     subst (OutputsWhole form s (nodes_of s) most_outputs) some.0 all in
     record { head = head; size = gates.size; lines = gates.lines; some = some.1; few = ends.few; nodes_only = ends.nodes_only }
-after_gates_sound s head (Refused r) ruled e = absurd (not_sound r e)
+after_gates_sound s head (Err r) ruled e = absurd (not_sound r e)
 
-after_head_sound : (s : List ℕ) (v : Verdict) → head_verdict s ≡ v → (after_head s v).verdict ≡ Sound → SoundTable s (after_head s v)
-after_head_sound s Sound ruled e = after_gates_sound s (head_sound s ruled) (gates_of s).verdict refl e
-after_head_sound s (Refused r) ruled e = absurd (not_sound r e)
+after_head_sound : (s : List ℕ) (v : Verdict) → head_verdict s ≡ v → (after_head s v).verdict ≡ Ok tt → SoundTable s (after_head s v)
+after_head_sound s (Ok _) ruled e = after_gates_sound s (head_sound s ruled) (gates_of s).verdict refl e
+after_head_sound s (Err r) ruled e = absurd (not_sound r e)
 
-pub table_sound : (s : List ℕ) → (found s).verdict ≡ Sound → SoundTable s (found s)
+pub table_sound : (s : List ℕ) → (found s).verdict ≡ Ok tt → SoundTable s (found s)
 unfolding found
 table_sound s e = after_head_sound s (head_verdict s) refl e
 
 -- a whole reply comes from a table that reads whole, and says its numbers
 pub record ReadWhole (a : Arrays) (s : List ℕ) (n : Numbers) : Type 0 where
   pub long : enough a ≡ true
-  pub sound : (found s).verdict ≡ Sound
+  pub sound : (found s).verdict ≡ Ok tt
   pub numbers : n ≡ numbers_of s
 
-pub read_whole : (a : Arrays) (s : List ℕ) (n : Numbers) → reading a s ≡ Whole n → ReadWhole a s n
+pub read_whole : (a : Arrays) (s : List ℕ) (n : Numbers) → reading a s ≡ Ok n → ReadWhole a s n
 unfolding reading
 read_whole a s n e = by (enough a) (found s).verdict refl refl e
   where
-    by : (b : Bool) (v : Verdict) → enough a ≡ b → (found s).verdict ≡ v → cond b (reply_of s (found s) v) TooShort ≡ Whole n → ReadWhole a s n
-    by true Sound long sound e = record { long = long; sound = sound; numbers = cc }
-    by true (Refused r) long sound e = let z : ◌≡◌ {A = ℕ} 0 1 = cc in absurd (omega arith)
-    by false Sound long sound e = let z : ◌≡◌ {A = ℕ} 0 1 = cc in absurd (omega arith)
-    by false (Refused r) long sound e = let z : ◌≡◌ {A = ℕ} 0 1 = cc in absurd (omega arith)
+    by : (b : Bool) (v : Verdict) → enough a ≡ b → (found s).verdict ≡ v → cond b (reply_of s (found s) v) (Err TooShort) ≡ Ok n → ReadWhole a s n
+    by true (Ok _) long sound e = record { long = long; sound = sound; numbers = cc }
+    by true (Err r) long sound e = let z : ◌≡◌ {A = ℕ} 0 1 = cc in absurd (omega arith)
+    by false (Ok _) long sound e = let z : ◌≡◌ {A = ℕ} 0 1 = cc in absurd (omega arith)
+    by false (Err r) long sound e = let z : ◌≡◌ {A = ℕ} 0 1 = cc in absurd (omega arith)

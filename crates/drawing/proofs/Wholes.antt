@@ -10,19 +10,16 @@ use lib.Dec.{leb}
 use lib.Seq.{sets}
 use Rattle.storage.specs.declared.Numbers.{Numbers}
 use Rattle.drawing.specs.declared.Refusal.{Refusal}
-use Rattle.drawing.specs.declared.Verdict.TheVariants.{Sound, Refused}
-use Rattle.drawing.specs.declared.Reading.{Reading}
-use Rattle.drawing.specs.declared.Reading.TheVariants.{Whole, TooShort, Refused as RefusedTable}
-use Rattle.drawing.specs.declared.filling.Ended.{Ended}
-use Rattle.drawing.specs.declared.filling.Ended.TheVariants.{At, RefusedFor}
+use Rattle.std.specs.Prelude.{Ok, Err}
+use Rattle.drawing.specs.declared.ReadError.TheVariants.{Refused, TooShort}
 use Rattle.drawing.specs.declared.TableForm.{TableForm}
 use Rattle.drawing.specs.paper.Limits.{most_nodes, most_outputs}
 use Rattle.drawing.specs.paper.Forms.{form_of, gates_start}
 use Rattle.drawing.specs.paper.Fields.{head_verdict, head_k, head_i, head_g}
 use Rattle.drawing.specs.paper.Reading.{OutputsFound, Found, found, gates_of, outputs_at, nodes_of, numbers_with}
-use Rattle.drawing.specs.Reading.{reply_of, reading, most_places}
+use Rattle.drawing.specs.Reading.{Reading, reply_of, reading, most_places}
 use Rattle.drawing.specs.Reading.{Lines, lines_of, Arrays, enough, no_fanins, with_inputs, put_gates, filled, Reads}
-use Rattle.drawing.specs.Filling.{GatesDone, gates_done, GatesRead, OutputsRead}
+use Rattle.drawing.specs.Filling.{Ended, GatesDone, gates_done, GatesRead, OutputsRead}
 use Rattle.drawing.proofs.Filled.{ended_refused, ended_at}
 
 -- Two replies that the promise allows are equal, and so are the arrays.
@@ -57,12 +54,19 @@ enough_long a long =
       le-leb most_outputs (length a.outputs) long.outputs,
     )
 
+pub not_long : (a : Arrays) → (Long a → ⊥) → enough a ≡ false
+not_long a short = by (enough a) refl
+  where
+    by : (b : Bool) → enough a ≡ b → b ≡ false
+    by true e = absurd (short (long_enough a e))
+    by false e = refl
+
 module _ (a : Arrays) (s : List ℕ) where
-  pub reads_short : enough a ≡ false → Reads a s TooShort a
+  pub reads_short : enough a ≡ false → Reads a s (Err TooShort) a
   unfolding reading filled
   reads_short short = record { reply = rw short; arrays = rw short }
 
-  pub reads_no_head : {r : Refusal} → enough a ≡ true → head_verdict s ≡ Refused r → Reads a s (RefusedTable r) a
+  pub reads_no_head : {r : Refusal} → enough a ≡ true → head_verdict s ≡ Err r → Reads a s (Err (Refused r)) a
   unfolding reading filled found
   reads_no_head long ruled = record { reply = rw (long, ruled); arrays = rw (long, ruled) }
 
@@ -89,7 +93,7 @@ outputs_as_headed s before at {form} {h} {ended} {after} formed head read =
     subst (λ (n : Numbers). OutputsRead before 0 (outputs_at (form_of s) s n.nodes at) ended after) head
     (subst (λ (f : TableForm). OutputsRead before 0 (outputs_at f s h.nodes at) ended after) formed read)
 
-module _ (a : Arrays) (s : List ℕ) (long : enough a ≡ true) (head : head_verdict s ≡ Sound) where
+module _ (a : Arrays) (s : List ℕ) (long : enough a ≡ true) (head : head_verdict s ≡ Ok tt) where
   reads_found :
       {f : Found} → found s ≡ f →
       Reads a s (reply_of s f f.verdict)
@@ -117,15 +121,15 @@ module _ (a : Arrays) (s : List ℕ) (long : enough a ≡ true) (head : head_ver
     stored : lines ≡ put_gates (with_inputs a.lines (head_i s)) (head_i s) (gates_of s).gates
     stored = read.lines ∙ ap (λ (d : GatesDone). d.lines) gates_found
 
-    pub reads_gates_refused : {r : Refusal} → ended ≡ RefusedFor r → Reads a s (RefusedTable r) (record { lines = lines; outputs = a.outputs })
+    pub reads_gates_refused : {r : Refusal} → ended ≡ Err r → Reads a s (Err (Refused r)) (record { lines = lines; outputs = a.outputs })
     unfolding found
     reads_gates_refused {r} e =
-        let ruled : (gates_of s).verdict ≡ Refused r =
+        let ruled : (gates_of s).verdict ≡ Err r =
         sym (ap (λ (d : GatesDone). d.verdict) gates_found) ∙ ended_refused done.verdict done.next (sym read.reply ∙ e) in
-        let is : found s ≡ record { gates = (gates_of s).gates; outputs = []; verdict = Refused r } = rw (head, ruled) in
+        let is : found s ≡ record { gates = (gates_of s).gates; outputs = []; verdict = Err r } = rw (head, ruled) in
         rw stored (reads_found is)
 
-    module _ {at : ℕ} (sound : ended ≡ At at) {last : Ended} {outputs : List ℕ}
+    module _ {at : ℕ} (sound : ended ≡ Ok at) {last : Ended} {outputs : List ℕ}
         (rest : OutputsRead a.outputs 0 (outputs_at (form_of s) s (nodes_of s) at) last outputs) where
       abbrev tail : OutputsFound
       tail = outputs_at (form_of s) s (nodes_of s) at
@@ -134,19 +138,19 @@ module _ (a : Arrays) (s : List ℕ) (long : enough a ≡ true) (head : head_ver
       unfolding found
       is =
           let ends = ended_at done.verdict done.next (sym read.reply ∙ sound) in
-          let ruled : (gates_of s).verdict ≡ Sound = sym (ap (λ (d : GatesDone). d.verdict) gates_found) ∙ ends.0 in
+          let ruled : (gates_of s).verdict ≡ Ok tt = sym (ap (λ (d : GatesDone). d.verdict) gates_found) ∙ ends.0 in
           let next : (gates_of s).next ≡ at = sym (ap (λ (d : GatesDone). d.next) gates_found) ∙ ends.1 in
           rw (head, ruled, next)
 
-      pub reads_outputs_refused : {r : Refusal} → last ≡ RefusedFor r → Reads a s (RefusedTable r) (record { lines = lines; outputs = outputs })
+      pub reads_outputs_refused : {r : Refusal} → last ≡ Err r → Reads a s (Err (Refused r)) (record { lines = lines; outputs = outputs })
       reads_outputs_refused {r} e =
-          let ruled : tail.verdict ≡ Refused r = ended_refused tail.verdict (0 + length tail.outputs) (sym rest.reply ∙ e) in
-          let ends : found s ≡ record { gates = (gates_of s).gates; outputs = tail.outputs; verdict = Refused r } = is ∙ rw ruled in
+          let ruled : tail.verdict ≡ Err r = ended_refused tail.verdict (0 + length tail.outputs) (sym rest.reply ∙ e) in
+          let ends : found s ≡ record { gates = (gates_of s).gates; outputs = tail.outputs; verdict = Err r } = is ∙ rw ruled in
           rw (stored, rest.outputs) (reads_found ends)
 
-      pub reads_whole : {n : ℕ} → last ≡ At n → Reads a s (Whole (numbers_with s n)) (record { lines = lines; outputs = outputs })
+      pub reads_whole : {n : ℕ} → last ≡ Ok n → Reads a s (Ok (numbers_with s n)) (record { lines = lines; outputs = outputs })
       reads_whole {n} e =
           let ruled = ended_at tail.verdict (0 + length tail.outputs) (sym rest.reply ∙ e) in
-          let ends : found s ≡ record { gates = (gates_of s).gates; outputs = tail.outputs; verdict = Sound } = is ∙ rw ruled.0 in
+          let ends : found s ≡ record { gates = (gates_of s).gates; outputs = tail.outputs; verdict = Ok tt } = is ∙ rw ruled.0 in
           let count : n ≡ length tail.outputs = omega (arith, ruled.1) in
           rw (stored, rest.outputs, count) (reads_found ends)

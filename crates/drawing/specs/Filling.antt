@@ -1,22 +1,23 @@
 -- What the loops of a reading leave: from a place on, the arrays, the ruling and the end.
-use Rattle.std.specs.Prelude.{ℕ, ◌+◌, ◌*◌, ◌-◌, ◌≤◌, ◌<◌, ◌≡◌, List, length}
+use Rattle.std.specs.Prelude.{ℕ, ◌+◌, ◌*◌, ◌-◌, ◌≤◌, ◌<◌, ◌≡◌, List, length, Result, Ok, Err}
 use Rattle.std.proofs.lemmas.List.Edits.{sets}
 use Rattle.drawing.specs.declared.TableForm.{TableForm}
-use Rattle.drawing.specs.declared.Verdict.{Verdict}
-use Rattle.drawing.specs.declared.Verdict.TheVariants.{Sound, Refused}
-use Rattle.drawing.specs.declared.filling.Ended.{Ended}
-use Rattle.drawing.specs.declared.filling.Ended.TheVariants.{At, RefusedFor}
+use Rattle.drawing.specs.declared.Refusal.{Refusal}
 use Rattle.drawing.specs.paper.Limits.{most_k}
 use Rattle.drawing.specs.paper.Bytes.{length_at, value_at}
 use Rattle.drawing.specs.paper.Forms.{gates_start, gate_size}
 use Rattle.drawing.specs.Forms.{Formed}
-use Rattle.drawing.specs.paper.Fields.{gate_m, gate_at, gate_verdict}
+use Rattle.drawing.specs.paper.Fields.{Verdict, gate_m, gate_at, gate_verdict}
 use Rattle.drawing.specs.paper.Reading.{gates_from, OutputsFound}
 use Rattle.drawing.specs.Reading.{Lines, put_gate, put_gates}
 
+-- How a run of fields ended: all sound, with the number that the function says, or refused.
+abbrev pub Ended : Type 0
+Ended = Result ℕ Refusal
+
 abbrev pub end_of : Verdict → ℕ → Ended
-end_of Sound next = At next
-end_of (Refused r) next = RefusedFor r
+end_of (Ok _) next = Ok next
+end_of (Err r) next = Err r
 
 -- A gate's line can be stored at node v: its value lies within the bytes, and its entries within the arrays.
 pub record GateFits (form : TableForm) (s : List ℕ) (at v : ℕ) (a : Lines) : Type 0 where
@@ -36,8 +37,8 @@ pub record GateTurn (form : TableForm) (s : List ℕ) (at k v : ℕ) (a : Lines)
 
 -- one gate read, or refused
 abbrev pub gate_stored : TableForm → Lines → ℕ → List ℕ → ℕ → Verdict → Lines
-gate_stored form a v s at Sound = put_gate a v (gate_at form s at)
-gate_stored form a v s at (Refused r) = a
+gate_stored form a v s at (Ok _) = put_gate a v (gate_at form s at)
+gate_stored form a v s at (Err r) = a
 
 pub record GateRead (form : TableForm) (before : Lines) (s : List ℕ) (at k nodes v : ℕ) (r : Ended) (after : Lines) : Type 0 where
   pub reply : r ≡ end_of (gate_verdict form s at k nodes) (value_at at + length_at s at)
@@ -67,7 +68,7 @@ gates_done form s k nodes a v at =
 pub record GatesRead (form : TableForm) (before : Lines) (s : List ℕ) (k nodes v at : ℕ) (r : Ended) (after : Lines) : Type 0 where
   pub reply : r ≡ end_of (gates_done form s k nodes before v at).verdict (gates_done form s k nodes before v at).next
   pub lines : after ≡ (gates_done form s k nodes before v at).lines
-  pub inside : (next : ℕ) → r ≡ At next → next ≤ length s
+  pub inside : (next : ℕ) → r ≡ Ok next → next ≤ length s
 
 -- the outputs from the i-th on, read at `at`
 abbrev pub end_of_outputs : OutputsFound → (i : ℕ) → Ended

@@ -1,13 +1,12 @@
 -- What the arrays that a caller lends hold after a reading.
-use Rattle.std.specs.Prelude.{ℕ, zero, suc, ◌*◌, ◌≡◌, Bool, cond, ◌&&◌, List, [], ◌∷◌, length, set, leb}
+use Rattle.std.specs.Prelude.{ℕ, zero, suc, ◌*◌, ◌≡◌, Bool, cond, ◌&&◌, List, [], ◌∷◌, length, set, leb, Result, Ok, Err}
 use Rattle.std.proofs.lemmas.List.Edits.{sets}
-use Rattle.drawing.specs.declared.Verdict.{Verdict}
-use Rattle.drawing.specs.declared.Verdict.TheVariants.{Sound, Refused}
-use Rattle.drawing.specs.declared.Reading.{Reading}
-use Rattle.drawing.specs.declared.Reading.TheVariants.{Whole, TooShort, Refused as RefusedFor}
+use Rattle.storage.specs.declared.Numbers.{Numbers}
+use Rattle.drawing.specs.declared.ReadError.{ReadError}
+use Rattle.drawing.specs.declared.ReadError.TheVariants.{Refused, TooShort}
 use Rattle.drawing.specs.paper.Limits.{most_nodes, most_outputs}
 use Rattle.drawing.specs.paper.Table.{GateLine}
-use Rattle.drawing.specs.paper.Fields.{head_verdict, head_i}
+use Rattle.drawing.specs.paper.Fields.{Verdict, head_verdict, head_i}
 use Rattle.drawing.specs.paper.Reading.{Found, found, numbers_with}
 
 -- the places of the largest table's fanins, seven a node
@@ -52,23 +51,27 @@ unfoldable pub put_gates : Lines → ℕ → List GateLine → Lines
 put_gates a v [] = a
 put_gates a v (g ∷ gs) = put_gates (put_gate a v g) (suc v) gs
 
+-- What a reading answers: the numbers of a whole table, or why there are none.
+abbrev pub Reading : Type 0
+Reading = Result Numbers ReadError
+
 abbrev pub reply_of : List ℕ → Found → Verdict → Reading
-reply_of s f Sound = Whole (numbers_with s (length f.outputs))
-reply_of s f (Refused r) = RefusedFor r
+reply_of s f (Ok tt) = Ok (numbers_with s (length f.outputs))
+reply_of s f (Err r) = Err (Refused r)
 
 -- The reply to a table's bytes, which are looked at only where the arrays are long enough.
 unfoldable pub reading : Arrays → List ℕ → Reading
-reading a s = cond (enough a) (reply_of s (found s) (found s).verdict) TooShort
+reading a s = cond (enough a) (reply_of s (found s) (found s).verdict) (Err TooShort)
 
 -- What is read whole stands in the arrays: once the head is sound an input has no fanins, and each gate and output read whole has its
 -- entries, whether or not a fault comes later. All else is as before.
 abbrev pub stored_by : Arrays → List ℕ → Verdict → Arrays
-stored_by a s Sound =
+stored_by a s (Ok _) =
     record {
       lines = put_gates (with_inputs a.lines (head_i s)) (head_i s) (found s).gates;
       outputs = sets a.outputs 0 (found s).outputs;
     }
-stored_by a s (Refused r) = a
+stored_by a s (Err r) = a
 
 unfoldable pub filled : Arrays → List ℕ → Arrays
 filled a s = cond (enough a) (stored_by a s (head_verdict s)) a

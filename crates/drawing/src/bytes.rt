@@ -21,10 +21,8 @@ pub fn number_at(s: &[u8], at: usize, size: usize) -> u64
     ensures { result ≡ number_at s.now at size }
 {
     let mut number: u64 = 0;
-    let mut i = 0;
-    while i < size {
-        number = number * 256 + byte_at(s, at + i) as u64;
-        i += 1;
+    for &byte in &s[at..at + size] {
+        number = number * 256 + byte as u64;
     }
     number
 }
@@ -56,14 +54,10 @@ pub fn ids_below(s: &[u8], at: usize, width: usize, count: usize, nodes: usize) 
     requires width_in_bounds { at + count * width ≤ length s.now }
     ensures { result ≡ not (some_from nodes (ids_at s.now at width count)) }
 {
-    let mut next = at;
-    let mut left = count;
-    while 0 < left {
-        if nodes <= small_at(s, next, width) {
+    for i in 0..count {
+        if nodes <= small_at(s, at + i * width, width) {
             return false;
         }
-        next += width;
-        left -= 1;
     }
     true
 }

@@ -14,16 +14,9 @@ ghost use Rattle.drawing.specs.Filling.{GateFits, GateTurn, GateRead, GatesFit, 
 use crate::bytes::{byte_at, length_at, number_at, small_at};
 use crate::fields::{gate_ruling, output_ruling};
 use crate::limits::{FRAME, MOST_OUTPUTS, ROWS_SIZE};
-use crate::{Refusal, TableForm, Verdict};
+use crate::{Refusal, TableForm};
 use storage::lists::{PLACES, put_size};
 use storage::{CutSize, Node, Numbers};
-
-// How a run of fields ended: all sound, with the number that the function says, or refused.
-#[derive(Clone, Copy)]
-pub enum Ended {
-    At(usize),
-    RefusedFor(Refusal),
-}
 
 // Stores the `count` ids from `at` on, from place `to` on.
 fn put_ids(s: &[u8], at: usize, width: usize, count: usize, ids: &mut [u16], to: usize)
@@ -32,14 +25,8 @@ fn put_ids(s: &[u8], at: usize, width: usize, count: usize, ids: &mut [u16], to:
     requires count_in_bounds { to + count ≤ length ids.old }
     ensures { ids.new ≡ sets ids.old to (ids_at s.now at width count) }
 {
-    let mut next = at;
-    let mut place = to;
-    let mut left = count;
-    while 0 < left {
-        ids[place] = small_at(s, next, width) as u16;
-        next += width;
-        place += 1;
-        left -= 1;
+    for i in 0..count {
+        ids[to + i] = small_at(s, at + i * width, width) as u16;
     }
 }
 
@@ -48,10 +35,8 @@ pub fn put_inputs(fanins: &mut [u16], inputs: usize)
     requires { 7 * inputs ≤ length fanins.old }
     ensures { fanins.new ≡ no_fanins fanins.old inputs }
 {
-    let mut v = 0;
-    while v < inputs {
+    for v in 0..inputs {
         fanins[PLACES * v] = 0;
-        v += 1;
     }
 }
 
@@ -78,19 +63,14 @@ fn read_gate(
     gate: Node,
     fanins: &mut [u16],
     rows: &mut [u64],
-) -> Ended
+) -> Result<usize, Refusal>
     requires { GateTurn form s.now at numbers.k.leaves gate.id (lines_of fanins.old rows.old) }
     ensures { GateRead form (lines_of fanins.old rows.old) s.now
         at numbers.k.leaves numbers.nodes gate.id result (lines_of fanins.new rows.new) }
 {
-    let ruled = gate_ruling(form, numbers, s, at);
-    match ruled {
-        Verdict::Refused(r) => Ended::RefusedFor(r),
-        Verdict::Sound => {
-            put_gate(form, s, at, gate, fanins, rows);
-            Ended::At(at + FRAME + length_at(s, at))
-        }
-    }
+    gate_ruling(form, numbers, s, at)?;
+    put_gate(form, s, at, gate, fanins, rows);
+    Ok(at + FRAME + length_at(s, at))
 }
 
 // Reads the gates, the nodes from `numbers.inputs` on, and answers where they end.
@@ -100,27 +80,16 @@ pub fn read_gates(
     s: &[u8],
     fanins: &mut [u16],
     rows: &mut [u64],
-) -> Ended
+) -> Result<usize, Refusal>
     requires { GatesFit form s.now numbers.k.leaves numbers.inputs numbers.nodes (lines_of fanins.old rows.old) }
     ensures { GatesRead form (lines_of fanins.old rows.old) s.now
         numbers.k.leaves numbers.nodes numbers.inputs (gates_start form) result (lines_of fanins.new rows.new) }
 {
-    let nodes = numbers.nodes;
     let mut at = FRAME + form.size;
-    let mut v = numbers.inputs;
-    while v < nodes {
-        let ended = read_gate(form, numbers, s, at, Node { id: v as u16 }, fanins, rows);
-        match ended {
-            Ended::RefusedFor(r) => {
-                return Ended::RefusedFor(r);
-            }
-            Ended::At(next) => {
-                at = next;
-            }
-        }
-        v += 1;
+    for v in numbers.inputs..numbers.nodes {
+        at = read_gate(form, numbers, s, at, Node { id: v as u16 }, fanins, rows)?;
     }
-    Ended::At(at)
+    Ok(at)
 }
 
 // Reads the outputs from `start` to the end of the bytes, and answers how many there are.
@@ -130,26 +99,24 @@ pub fn read_outputs(
     start: usize,
     nodes: usize,
     outputs: &mut [u16],
-) -> Ended
+) -> Result<usize, Refusal>
     requires formed { Formed form }
     requires start_in_bounds { start ≤ length s.now }
     requires most_outputs_in_bounds { most_outputs ≤ length outputs.old }
     ensures { OutputsRead outputs.old 0 (outputs_at form s.now nodes start) result outputs.new }
 {
     if start == s.len() {
-        return Ended::RefusedFor(Refusal::Outputs(start));
+        return Err(Refusal::Outputs(start));
     }
     let width = form.width;
     let mut at = start;
+    // the walk goes by fields to the end of the bytes, so how many it meets is known at its end
     let mut i: usize = 0;
     while at < s.len() {
-        let ruled = output_ruling(form, s, at, MOST_OUTPUTS - i, nodes);
-        if let Verdict::Refused(r) = ruled {
-            return Ended::RefusedFor(r);
-        }
+        output_ruling(form, s, at, MOST_OUTPUTS - i, nodes)?;
         outputs[i] = small_at(s, at + FRAME, width) as u16;
         at = at + FRAME + width;
         i += 1;
     }
-    Ended::At(i)
+    Ok(i)
 }

@@ -7,13 +7,13 @@ mod filling;
 pub mod limits;
 pub mod refusals;
 
-ghost use Rattle.std.specs.Prelude.{◌≡◌, true};
+ghost use Rattle.std.specs.Prelude.{◌≡◌, true, Ok};
+ghost use Rattle.drawing.specs.declared.ReadError.TheVariants.{Refused};
 ghost use Rattle.drawing.specs.paper.Forms.{narrow_table, form_of};
 ghost use Rattle.drawing.specs.paper.Fields.{head_verdict};
 ghost use Rattle.drawing.specs.paper.Reading.{numbers_with};
 ghost use Rattle.drawing.specs.Reading.{arrays_of, enough, Reads};
 
-use crate::filling::Ended;
 use crate::limits::{
     GATE, GATES_AT, HEAD, HEAD_SIZE, ID_SIZE, INPUTS_AT, K_AT, LEAST_NODES, MOST_NODES,
     MOST_OUTPUTS, MOST_PLACES, OUTPUT,
@@ -44,20 +44,20 @@ pub enum Refusal {
     Outputs(usize),
 }
 
-// The ruling on one field.
-#[derive(Clone, Copy)]
-pub enum Verdict {
-    Sound,
-    Refused(Refusal),
-}
-
-// What a gate table's bytes are: a whole table with its numbers, whose roots are its outputs; or refused.
+// Why a reading has no numbers to answer.
 // TooShort: an array that the caller lent is shorter than the largest table needs, and the bytes were not looked at.
 #[derive(Clone, Copy)]
-pub enum Reading {
-    Whole(Numbers),
+pub enum ReadError {
     Refused(Refusal),
     TooShort,
+}
+
+impl From<Refusal> for ReadError {
+    ghost from_gives = { λ r e. e ≡ Refused r };
+
+    fn from(r: Refusal) -> ReadError {
+        ReadError::Refused(r)
+    }
 }
 
 // Document 01's form: ids of one byte.
@@ -78,7 +78,7 @@ pub fn narrow_table() -> TableForm
 // The numbers of a sound head, which says nothing of outputs.
 fn sound_head(form: TableForm, table: &[u8]) -> Numbers
     requires form_value { form ≡ form_of table.now }
-    requires table_value { head_verdict table.now ≡ Verdict.Sound }
+    requires table_value { head_verdict table.now ≡ Ok tt }
     ensures { result ≡ numbers_with table.now 0 }
 {
     let inputs = bytes::byte_at(table, INPUTS_AT);
@@ -99,55 +99,35 @@ fn read_body(
     fanins: &mut [u16],
     rows: &mut [u64],
     outputs: &mut [u16],
-) -> Reading
+) -> Result<Numbers, ReadError>
     requires form_value { form ≡ form_of table.now }
-    requires table_value { head_verdict table.now ≡ Verdict.Sound }
+    requires table_value { head_verdict table.now ≡ Ok tt }
     requires outputs_value { enough (arrays_of fanins.old rows.old outputs.old) ≡ true }
     ensures { Reads (arrays_of fanins.old rows.old outputs.old) table.now result
         (arrays_of fanins.new rows.new outputs.new) }
 {
     let head = sound_head(form, table);
     filling::put_inputs(fanins, head.inputs);
-    let gates = filling::read_gates(form, head, table, fanins, rows);
-    match gates {
-        Ended::RefusedFor(r) => Reading::Refused(r),
-        Ended::At(at) => {
-            let last = filling::read_outputs(form, table, at, head.nodes, outputs);
-            match last {
-                Ended::RefusedFor(r) => Reading::Refused(r),
-                Ended::At(number) => {
-                    let k = head.k;
-                    Reading::Whole(Numbers {
-                        k: k,
-                        inputs: head.inputs,
-                        nodes: head.nodes,
-                        roots: number,
-                    })
-                }
-            }
-        }
-    }
+    let at = filling::read_gates(form, head, table, fanins, rows)?;
+    let roots = filling::read_outputs(form, table, at, head.nodes, outputs)?;
+    Ok(Numbers { roots, ..head })
 }
 
-// Reads a gate table in one pass. The arrays are lent for the largest table: the places of its nodes' fanins, a function table a node,
+// Reads a gate table in one pass: a whole table's numbers, whose roots are its outputs. The arrays are lent for the largest table: the places of its nodes' fanins, a function table a node,
 // and the outputs; longer ones serve too.
-pub fn read(table: &[u8], fanins: &mut [u16], rows: &mut [u64], outputs: &mut [u16]) -> Reading
+pub fn read(
+    table: &[u8],
+    fanins: &mut [u16],
+    rows: &mut [u64],
+    outputs: &mut [u16],
+) -> Result<Numbers, ReadError>
     ensures { Reads (arrays_of fanins.old rows.old outputs.old) table.now result
         (arrays_of fanins.new rows.new outputs.new) }
 {
-    if fanins.len() < MOST_PLACES {
-        return Reading::TooShort;
-    }
-    if rows.len() < MOST_NODES {
-        return Reading::TooShort;
-    }
-    if outputs.len() < MOST_OUTPUTS {
-        return Reading::TooShort;
+    if fanins.len() < MOST_PLACES || rows.len() < MOST_NODES || outputs.len() < MOST_OUTPUTS {
+        return Err(ReadError::TooShort);
     }
     let form = narrow_table();
-    let ruled = fields::head_ruling(form, table);
-    match ruled {
-        Verdict::Refused(r) => Reading::Refused(r),
-        Verdict::Sound => read_body(form, table, fanins, rows, outputs),
-    }
+    fields::head_ruling(form, table)?;
+    read_body(form, table, fanins, rows, outputs)
 }

@@ -21,11 +21,11 @@ pub fn place_of(r: Refusal) -> u64
     ensures { result ≡ place r }
 {
     match r {
-        Refusal::Torn(at) => at as u64,
-        Refusal::Tag(at) => at as u64,
-        Refusal::Length(at) => at as u64,
-        Refusal::Range(at) => at as u64,
-        Refusal::Rows(at) => at as u64,
-        Refusal::Outputs(at) => at as u64,
+        Refusal::Torn(at)
+        | Refusal::Tag(at)
+        | Refusal::Length(at)
+        | Refusal::Range(at)
+        | Refusal::Rows(at)
+        | Refusal::Outputs(at) => at as u64,
     }
 }

@@ -4,6 +4,7 @@ use Prim.Native.Nat.{ℕ}
 use mathlib.Core.Path.{◌≡◌, sym, subst}
 use mathlib.Core.List.{List, Memᴰ}
 use lib.ListN.{length, take}
+use Rattle.std.specs.Prelude.{Err}
 use Rattle.storage.specs.declared.Node.{Node}
 use Rattle.storage.specs.declared.Numbers.{Numbers}
 use Rattle.storage.specs.Drawings.{net_in, tables_in}
@@ -15,7 +16,7 @@ use Rattle.drawing.specs.paper.Table.{net_of, tables_of}
 use Rattle.drawing.specs.paper.Reading.{found, table_of, nodes_of}
 use Rattle.drawing.specs.Reading.{arrays_of}
 use Rattle.drawing.proofs.SoundTables.{table_sound}
-use Rattle.taking.specs.declared.Taking.TheVariants as taking
+use Rattle.taking.specs.declared.TakeError.TheVariants as taking
 use Rattle.taking.specs.paper.Says.{Says}
 use Rattle.taking.specs.Judged.{Ready}
 use Rattle.taking.proofs.Judged.{TakenAs, refused_verdict, loop_said}
@@ -30,10 +31,10 @@ use Rattle.sheet.proofs.Firsts.{first_as}
 -- Refusals and loops
 
 module _ (t : List ℕ) {s : List ℕ} where
-  pub says_refused : {x : Refusal} → Says s (taking.Refused x) → Inspects s t (inspection.Refused x)
+  pub says_refused : {x : Refusal} → Says s (Err (taking.Refused x)) → Inspects s t (inspection.Refused x)
   says_refused said = Inspects.refused (refused_verdict said)
 
-  pub says_loop : {g : Node} → Says s (taking.LoopAt g) → Inspects s t (inspection.LoopAt g)
+  pub says_loop : {g : Node} → Says s (Err (taking.LoopAt g)) → Inspects s t (inspection.LoopAt g)
   says_loop said = let (whole, loop) = loop_said said in Inspects.loop whole loop
 
 -- A table taken

@@ -19,7 +19,7 @@ use shaping::{Terms, judge_shape, load_sheet};
 use sheet::limits::MOST_DEPTH;
 use sheet::{Fault, Ruling, narrow_form};
 use storage::{Label, Node, Numbers};
-use taking::{Taking, take_table};
+use taking::{TakeError, take_table};
 use weighing::luts::{LutsJudged, judge_luts};
 use weighing::whole::{WholeJudged, judge_whole};
 
@@ -215,10 +215,10 @@ pub fn inspect(table: &[u8], sheet: &[u8]) -> Inspection
         &mut marks,
     );
     match taken {
-        Taking::Refused(refusal) => Inspection::Refused(refusal),
-        Taking::LoopAt(gate) => Inspection::LoopAt(gate),
+        Err(TakeError::Refused(refusal)) => Inspection::Refused(refusal),
+        Err(TakeError::LoopAt(gate)) => Inspection::LoopAt(gate),
         // never given: the arrays have the lengths that `take_table` asks
-        Taking::TooShort => Inspection::Depth,
-        Taking::Taken(numbers) => judge_sheet(numbers, &fanins, &rows, &outputs, &order, sheet),
+        Err(TakeError::TooShort) => Inspection::Depth,
+        Ok(numbers) => judge_sheet(numbers, &fanins, &rows, &outputs, &order, sheet),
     }
 }

@@ -14,7 +14,7 @@ use Rattle.theory.specs.paper.Net.{Gate, Input}
 use Rattle.theory.specs.paper.Walk.{NoLoop}
 use Rattle.theory.specs.paper.Sound.{Bounded, Ranked}
 use Rattle.theory.proofs.Walks.{input_or_gate, no_loop}
-use Rattle.drawing.specs.declared.Verdict.TheVariants.{Sound}
+use Rattle.std.specs.Prelude.{Ok}
 use Rattle.drawing.specs.paper.Fields.{head_k, head_i}
 use Rattle.drawing.specs.paper.Table.{GateLine, net_of, no_gate}
 use Rattle.drawing.specs.paper.Reading.{found, table_of, nodes_of}
@@ -36,7 +36,7 @@ pub inputs_are : (s : List ℕ) → head_i s ≡ (net_of (table_of s)).inputs
 unfolding net_of
 inputs_are s = refl
 
-module _ (s : List ℕ) (whole : (found s).verdict ≡ Sound) where
+module _ (s : List ℕ) (whole : (found s).verdict ≡ Ok tt) where
   pub bounded : Bounded (net_of (table_of s)) (head_k s)
   bounded = (whole_holds some_arrays s some_enough whole).bounded
 

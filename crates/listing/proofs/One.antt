@@ -5,9 +5,8 @@ use mathlib.Core.List.{List}
 use Rattle.drawing.specs.paper.Fields.{head_k}
 use Rattle.drawing.specs.paper.Table.{net_of, tables_of}
 use Rattle.drawing.specs.paper.Reading.{found, table_of}
-use Rattle.taking.specs.declared.Taking.{Taking}
 use Rattle.taking.specs.paper.Taken.{IsTaken}
-use Rattle.taking.specs.paper.Says.{Says, number, place}
+use Rattle.taking.specs.paper.Says.{Taking, Says, number, place}
 use Rattle.taking.proofs.Judged.{says_one}
 use Rattle.sheet.specs.paper.Sheet.{Sheet}
 use Rattle.wording.specs.paper.Text.{listing_of, refused_line}

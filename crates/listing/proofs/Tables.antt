@@ -4,6 +4,7 @@ use native.Mathlib.Omega.{arith}
 use mathlib.Core.Path.{◌≡◌, refl, ap, sym, subst}
 use mathlib.Core.List.{List}
 use lib.ListN.{length}
+use Rattle.std.specs.Prelude.{Err}
 use Rattle.storage.specs.declared.Node.{Node}
 use Rattle.storage.specs.declared.Numbers.{Numbers}
 use Rattle.drawing.specs.declared.Refusal.{Refusal}
@@ -12,10 +13,9 @@ use Rattle.drawing.specs.paper.Limits.{most_outputs}
 use Rattle.drawing.specs.paper.Fields.{head_k, head_i}
 use Rattle.drawing.specs.paper.Reading.{table_of, numbers_of}
 use Rattle.drawing.proofs.SoundTables.{table_sound}
-use Rattle.taking.specs.declared.Taking.{Taking}
-use Rattle.taking.specs.declared.Taking.TheVariants as taking
+use Rattle.taking.specs.declared.TakeError.TheVariants as taking
 use Rattle.taking.specs.Judged.{Ready}
-use Rattle.taking.specs.paper.Says.{Says, number, place}
+use Rattle.taking.specs.paper.Says.{Taking, Says, number, place}
 use Rattle.taking.proofs.Judged.{refusal_number}
 use Rattle.wording.specs.paper.Text.{listing_of, refused_line}
 use Rattle.wording.specs.paper.Puts.{Wrote}
@@ -49,13 +49,13 @@ module _ {s fanins rows outputs order : List ℕ} (ready : Ready s fanins rows o
   lists_taken {before = before} {r} {after} is long done =
       lists_numbered long (subst (λ (m : Numbers). TakenListed m fanins rows outputs before r after) is done)
 
-pub lists_refused : {s before : List ℕ} {t : Taking} {x : Refusal} {r : ℕ} {after : List ℕ} → Says s t → t ≡ taking.Refused x →
+pub lists_refused : {s before : List ℕ} {t : Taking} {x : Refusal} {r : ℕ} {after : List ℕ} → Says s t → t ≡ Err (taking.Refused x) →
     text_room ≤ length before → Wrote before (refused_line (table.number x) (table.place x)) r after → Lists s before r after
 lists_refused {s} {x = x} says is long wrote =
     Filled.written (refused_line (table.number x) (table.place x)) long
     (Listing.refused (subst (Says s) is says) (λ zero. omega (arith, zero, (refusal_number x).0))) wrote
 
-pub lists_loop : {s before : List ℕ} {t : Taking} {g : Node} {r : ℕ} {after : List ℕ} → Says s t → t ≡ taking.LoopAt g → text_room ≤ length before →
-    Wrote before (refused_line (number (taking.LoopAt g)) (place (taking.LoopAt g))) r after → Lists s before r after
+pub lists_loop : {s before : List ℕ} {t : Taking} {g : Node} {r : ℕ} {after : List ℕ} → Says s t → t ≡ Err (taking.LoopAt g) → text_room ≤ length before →
+    Wrote before (refused_line (number (Err (taking.LoopAt g))) (place (Err (taking.LoopAt g)))) r after → Lists s before r after
 lists_loop {s} {g = g} says is long wrote =
-    Filled.written (refused_line (number (taking.LoopAt g)) (place (taking.LoopAt g))) long (Listing.refused (subst (Says s) is says) (λ zero. omega (arith, zero))) wrote
+    Filled.written (refused_line (number (Err (taking.LoopAt g))) (place (Err (taking.LoopAt g)))) long (Listing.refused (subst (Says s) is says) (λ zero. omega (arith, zero))) wrote

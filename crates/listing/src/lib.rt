@@ -10,7 +10,7 @@ use drawing::refusals::{number_of, place_of};
 use packing::map_gates;
 use settling::{MOST_LINKS, MOST_WORDS};
 use storage::Numbers;
-use taking::{LOOP, Taking, take_table};
+use taking::{LOOP, TakeError, take_table};
 use wording::{list_mapping, write_refused};
 
 // Room for the longest listing.
@@ -84,10 +84,10 @@ pub fn list(table: &[u8], text: &mut [u8]) -> usize
         &mut marks,
     );
     match taken {
-        Taking::Taken(numbers) => list_taken(numbers, &fanins, &rows, &order, &outputs, text),
-        Taking::Refused(r) => write_refused(number_of(r), place_of(r), text),
-        Taking::LoopAt(gate) => write_refused(LOOP, gate.id as u64, text),
+        Ok(numbers) => list_taken(numbers, &fanins, &rows, &order, &outputs, text),
+        Err(TakeError::Refused(r)) => write_refused(number_of(r), place_of(r), text),
+        Err(TakeError::LoopAt(gate)) => write_refused(LOOP, gate.id as u64, text),
         // never given: the arrays have the lengths that `take_table` asks
-        Taking::TooShort => 0,
+        Err(TakeError::TooShort) => 0,
     }
 }

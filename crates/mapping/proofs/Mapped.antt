@@ -4,13 +4,13 @@ use native.Mathlib.Omega.{arith}
 use mathlib.Core.Path.{◌≡◌, ap, sym, subst, ◌∙◌}
 use mathlib.Core.List.{List, ◌++◌}
 use lib.ListN.{length, drop}
+use Rattle.std.specs.Prelude.{Ok, Err}
 use Rattle.storage.specs.declared.Numbers.{Numbers}
 use Rattle.theory.specs.paper.Net.{Net}
 use Rattle.drawing.specs.paper.Fields.{head_k}
 use Rattle.drawing.specs.paper.Reading.{numbers_of}
-use Rattle.taking.specs.declared.Taking.{Taking}
-use Rattle.taking.specs.declared.Taking.TheVariants as taking
-use Rattle.taking.specs.paper.Says.{Says}
+use Rattle.taking.specs.declared.TakeError.TheVariants as taking
+use Rattle.taking.specs.paper.Says.{Taking, Says}
 use Rattle.taking.specs.Judged.{Ready}
 use Rattle.taking.proofs.Judged.{says_one}
 use Rattle.sheet.specs.paper.Sheet.{Sheet}
@@ -49,16 +49,16 @@ pub data OneReply (s before : List ℕ) (r q : Reply) (a b : List ℕ) : Type 0 
       a ≡ with_sheet x before → b ≡ with_sheet y before → OneReply s before r q a b
 
 refusal_of_lem : Taking → Reply
-refusal_of_lem (taking.Taken n) = Room
-refusal_of_lem (taking.Refused x) = Refused x
-refusal_of_lem (taking.LoopAt g) = LoopAt g
-refusal_of_lem taking.TooShort = Room
+refusal_of_lem (Ok n) = Room
+refusal_of_lem (Err (taking.Refused x)) = Refused x
+refusal_of_lem (Err (taking.LoopAt g)) = LoopAt g
+refusal_of_lem (Err taking.TooShort) = Room
 
 kind_of : Taking → ℕ
-kind_of (taking.Taken n) = 0
-kind_of (taking.Refused x) = 1
-kind_of (taking.LoopAt g) = 2
-kind_of taking.TooShort = 3
+kind_of (Ok n) = 0
+kind_of (Err (taking.Refused x)) = 1
+kind_of (Err (taking.LoopAt g)) = 2
+kind_of (Err taking.TooShort) = 3
 
 apart : {s : List ℕ} {t u : Taking} {A : Type 0} → Says s t → Says s u → (kind_of t ≡ kind_of u → ⊥) → A
 apart t u differ = absurd (differ (ap kind_of (says_one t u)))

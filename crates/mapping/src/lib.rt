@@ -18,7 +18,7 @@ use drawing::limits::{MOST_NODES, MOST_OUTPUTS, MOST_PLACES};
 use settling::{MOST_LINKS, MOST_WORDS};
 use sheet::limits::SHEET_ROOM;
 use storage::{Node, Numbers};
-use taking::{Taking, take_table};
+use taking::{TakeError, take_table};
 
 // A table mapped, with the sheet's length; or refused; or the lowest gate on a loop; or a sheet buffer that is too short.
 #[derive(Clone, Copy)]
@@ -85,10 +85,10 @@ pub fn map(table: &[u8], sheet: &mut [u8]) -> Reply
         &mut marks,
     );
     match taken {
-        Taking::Taken(numbers) => map_taken(numbers, &fanins, &rows, &order, &outputs, sheet),
-        Taking::Refused(r) => Reply::Refused(r),
-        Taking::LoopAt(gate) => Reply::LoopAt(gate),
+        Ok(numbers) => map_taken(numbers, &fanins, &rows, &order, &outputs, sheet),
+        Err(TakeError::Refused(r)) => Reply::Refused(r),
+        Err(TakeError::LoopAt(gate)) => Reply::LoopAt(gate),
         // never given: the arrays have the lengths that `take_table` asks
-        Taking::TooShort => Reply::Room,
+        Err(TakeError::TooShort) => Reply::Room,
     }
 }

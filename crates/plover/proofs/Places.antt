@@ -7,7 +7,7 @@ use mathlib.Core.Logic.{⊎_elim}
 use mathlib.Core.List.{List, [], ◌∷◌, ◌++◌, map, flat_map, Memᴰ}
 use lib.ListN.{length, get_or}
 use Rattle.theory.specs.paper.Net.{Net}
-use Rattle.drawing.specs.declared.Verdict.TheVariants.{Sound}
+use Rattle.std.specs.Prelude.{Ok}
 use Rattle.drawing.specs.paper.Fields.{head_k}
 use Rattle.drawing.specs.paper.Table.{net_of, tables_of}
 use Rattle.drawing.specs.paper.Reading.{found, table_of, nodes_of}
@@ -114,7 +114,7 @@ reply_place depth (Found.broken (Rule.cover gate)) low broken = omega (arith, br
 reply_place depth (Found.broken Rule.depth) low broken = omega arith
 
 module _ (s t : List ℕ) (bytes : (i : ℕ) → get_or t i 0 < 256) where
-  few : (found s).verdict ≡ Sound → nodes_of s ≤ 192
+  few : (found s).verdict ≡ Ok tt → nodes_of s ≤ 192
   few whole = (table_sound s whole).head.nodes_most
 
   broken_low : IsTaken s → (reading (due_in s) t).ruling ≡ ruling.Sound → {Kept : Rule → Type 0} (x : Found) →

@@ -7,7 +7,7 @@ use mathlib.Core.Bool.{cond}
 use borrow.Author.Tests.{ne_eqb}
 use lib.ListN.{length, length-append}
 use Rattle.drawing.specs.declared.Refusal.TheVariants.{Outputs}
-use Rattle.drawing.specs.declared.Verdict.TheVariants.{Sound, Refused}
+use Rattle.std.specs.Prelude.{Ok, Err}
 use Rattle.drawing.specs.paper.Limits.{most_outputs}
 use Rattle.drawing.specs.paper.Forms.{narrow_table, gates_start}
 use Rattle.drawing.specs.paper.Table.{Table, net_of}
@@ -34,15 +34,15 @@ some_bytes (id ∷ ids) some =
 module _ (s : List ℕ) (table : Table) where
   assembled : {next : ℕ} → HeadStands narrow_table narrow_writable s table.k table.inputs (length table.gates) →
       gates_from narrow_table s table.k (nodes_in table) (length table.gates) (gates_start narrow_table)
-      ≡ record { gates = table.gates; verdict = Sound; next = next } →
-      outputs_at narrow_table s (nodes_in table) next ≡ record { outputs = table.outputs; verdict = Sound } →
-      found s ≡ record { gates = table.gates; outputs = table.outputs; verdict = Sound }
+      ≡ record { gates = table.gates; verdict = Ok tt; next = next } →
+      outputs_at narrow_table s (nodes_in table) next ≡ record { outputs = table.outputs; verdict = Ok tt } →
+      found s ≡ record { gates = table.gates; outputs = table.outputs; verdict = Ok tt }
   unfolding found head_verdict
   assembled {next} head gates outputs =
-      let gates_found : gates_of s ≡ record { gates = table.gates; verdict = Sound; next = next } =
+      let gates_found : gates_of s ≡ record { gates = table.gates; verdict = Ok tt; next = next } =
       (λ i. gates_from narrow_table s (head.k_read i) (head.inputs_read i + head.gates_read i) (head.gates_read i) (gates_start narrow_table))
       ∙ gates in
-      let outputs-found : outputs_at narrow_table s (nodes_of s) next ≡ record { outputs = table.outputs; verdict = Sound } =
+      let outputs-found : outputs_at narrow_table s (nodes_of s) next ≡ record { outputs = table.outputs; verdict = Ok tt } =
       (λ i. outputs_at narrow_table s (head.inputs_read i + head.gates_read i) next) ∙ outputs in
       ap (after_head s) head.ruled
       ∙ ap (λ (g : GatesFound). after_gates s g.verdict g) gates_found
@@ -61,7 +61,7 @@ head_of table within =
     (stands_first head gates (stands_first (head ++ gates) outputs whole))
 
 pub found_encoded : (table : Table) → Within table →
-    found (encode table) ≡ record { gates = table.gates; outputs = table.outputs; verdict = Sound }
+    found (encode table) ≡ record { gates = table.gates; outputs = table.outputs; verdict = Ok tt }
 unfolding encode_in
 found_encoded table within =
     let s = encode table in
@@ -77,8 +77,8 @@ found_encoded table within =
     let next-is : 0 + length (head ++ gates) ≡ next = omega (arith, length-append head gates, start) in
     let last : next + length outputs ≡ length s = omega (arith, length-append (head ++ gates) outputs, next-is) in
     let goes_on = ne_eqb next (length s) (λ e. omega (arith, last, some_bytes table.outputs within.outputs_some)) in
-    let outputs-part : outputs_at narrow_table s (nodes_in table) next ≡ record { outputs = table.outputs; verdict = Sound } =
-    (λ i. cond (goes_on i) (no_more (Refused (Outputs (length s)))) (outputs_from narrow_table s (nodes_in table) most_outputs next))
+    let outputs-part : outputs_at narrow_table s (nodes_in table) next ≡ record { outputs = table.outputs; verdict = Ok tt } =
+    (λ i. cond (goes_on i) (no_more (Err (Outputs (length s)))) (outputs_from narrow_table s (nodes_in table) most_outputs next))
     ∙ outputs_stand narrow_table narrow_writable s (nodes_in table) most_outputs next table.outputs within.outputs_most within.nodes_most
     within.outputs (stands_then (head ++ gates) outputs next-is whole) last in
     assembled s table head-part gates-part outputs-part

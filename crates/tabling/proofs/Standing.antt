@@ -11,8 +11,8 @@ use lib.Pow.{pow_mono}
 use lib.ListN.{length, get_or, length-append}
 use lib.Dec.{leb}
 use Rattle.drawing.specs.declared.TableForm.{TableForm}
-use Rattle.drawing.specs.declared.Verdict.{Verdict}
-use Rattle.drawing.specs.declared.Verdict.TheVariants.{Sound}
+use Rattle.drawing.specs.paper.Fields.{Verdict}
+use Rattle.std.specs.Prelude.{Ok}
 use Rattle.drawing.specs.paper.Limits.{least_k, most_k, least_inputs, most_inputs}
 use Rattle.drawing.specs.paper.Rules.{first}
 use Rattle.drawing.specs.paper.Bytes.{tag_at, length_at, value_at, number_at, ids_at, some_from}
@@ -43,7 +43,7 @@ byte_stands n small st = tag_stands st ∙ omega arith
 -- a field that stands, and none of whose rules is broken
 ruled_sound : {s : List ℕ} {at tag : ℕ} {value : List ℕ} {surplus length-wrong out_of_range row-set : Bool} → FieldStands s at tag value →
     surplus ≡ false → length-wrong ≡ false → out_of_range ≡ false → row-set ≡ false →
-    first Sound (frame_rules s at tag surplus ++ value_rules at length-wrong out_of_range row-set) ≡ Sound
+    first (Ok tt) (frame_rules s at tag surplus ++ value_rules at length-wrong out_of_range row-set) ≡ Ok tt
 ruled_sound {s} {at} {tag} f wanted right ranged clear =
     rw
     (le-ltb (length s - at) 3 f.begun, eq-eqb (tag_at s at) tag f.tagged, wanted, le-ltb (length s - value_at at) (length_at s at) (omega (arith, f.long, f.inside)), right, ranged, clear)
@@ -54,7 +54,7 @@ module _ (form : TableForm) (writable : Writable form) (s : List ℕ) where
     pub k_read : head_k s ≡ k
     pub inputs_read : head_i s ≡ inputs
     pub gates_read : gates_in form s ≡ gates
-    pub ruled : head_ruling form s ≡ Sound
+    pub ruled : head_ruling form s ≡ Ok tt
     pub end : gates_start form ≡ length (head_field form k inputs gates)
 
   pub head_stands : (k inputs gates : ℕ) → least_k ≤ k → k ≤ most_k → least_inputs ≤ inputs → inputs ≤ most_inputs →
@@ -99,7 +99,7 @@ module _ (form : TableForm) (writable : Writable form) (s : List ℕ) where
   -- a gate
   record GateStands (at k nodes : ℕ) (gate : GateLine) : Type 0 where
     read : gate_at form s at ≡ gate
-    ruled : gate_verdict form s at k nodes ≡ Sound
+    ruled : gate_verdict form s at k nodes ≡ Ok tt
     end : value_at at + length_at s at ≡ at + length (gate_field form gate)
 
   gate_stands : (at k nodes : ℕ) (gate : GateLine) → k ≤ most_k → nodes ≤ form.most → SoundLine k nodes gate →
@@ -152,9 +152,9 @@ module _ (form : TableForm) (writable : Writable form) (s : List ℕ) where
   pub gates_stand : (k nodes at : ℕ) (gates : List GateLine) → k ≤ most_k → nodes ≤ form.most →
       ((gate : GateLine) → Memᴰ gate gates → SoundLine k nodes gate) → Stands s at (flat_map (gate_field form) gates) →
       gates_from form s k nodes (length gates) at
-      ≡ record { gates = gates; verdict = Sound; next = at + length (flat_map (gate_field form) gates) }
+      ≡ record { gates = gates; verdict = Ok tt; next = at + length (flat_map (gate_field form) gates) }
   unfolding gates_from flat_map
-  gates_stand k nodes at [] k_most nodes_most each st = λ i. record { gates = []; verdict = Sound; next = none i }
+  gates_stand k nodes at [] k_most nodes_most each st = λ i. record { gates = []; verdict = Ok tt; next = none i }
     where
       none : at ≡ at + 0
       none = omega arith
@@ -169,12 +169,12 @@ module _ (form : TableForm) (writable : Writable form) (s : List ℕ) where
       omega (arith, here.end, length-append (gate_field form gate) rest) in
       ap (λ (v : Verdict). with_gate v (gate_at form s at) at (gates_from form s k nodes (length gates) next)) here.ruled
       ∙ (λ i. record { gates = here.read i ∷ (there i).gates; verdict = (there i).verdict; next = (there i).next })
-      ∙ (λ i. record { gates = gate ∷ gates; verdict = Sound; next = last i })
+      ∙ (λ i. record { gates = gate ∷ gates; verdict = Ok tt; next = last i })
 
   -- an output
   record OutputStands (at room nodes id : ℕ) : Type 0 where
     read : output_id form s at ≡ id
-    ruled : output_verdict form s at room nodes ≡ Sound
+    ruled : output_verdict form s at room nodes ≡ Ok tt
     end : value_at at + form.width ≡ at + length (output_field form id)
 
   output_stands : (at room nodes id : ℕ) → 1 ≤ room → nodes ≤ form.most → id < nodes → Stands s at (output_field form id) →
@@ -197,14 +197,14 @@ module _ (form : TableForm) (writable : Writable form) (s : List ℕ) where
   pub outputs_stand : (nodes room at : ℕ) (ids : List ℕ) → length ids ≤ room → nodes ≤ form.most →
       ((v : ℕ) → Memᴰ v ids → v < nodes) → Stands s at (flat_map (output_field form) ids) →
       at + length (flat_map (output_field form) ids) ≡ length s →
-      outputs_from form s nodes room at ≡ record { outputs = ids; verdict = Sound }
+      outputs_from form s nodes room at ≡ record { outputs = ids; verdict = Ok tt }
   unfolding outputs_from flat_map
   outputs_stand nodes zero at [] few nodes_most each st last =
       let ends = eq-eqb at (length s) (omega (arith, last)) in
-      λ i. cond (ends i) (no_more Sound) (no_more (output_verdict form s at zero nodes))
+      λ i. cond (ends i) (no_more (Ok tt)) (no_more (output_verdict form s at zero nodes))
   outputs_stand nodes (suc room) at [] few nodes_most each st last =
       let ends = eq-eqb at (length s) (omega (arith, last)) in
-      λ i. cond (ends i) (no_more Sound)
+      λ i. cond (ends i) (no_more (Ok tt))
       (with_output (output_verdict form s at (suc room) nodes) (output_id form s at) (outputs_from form s nodes room (value_at at + form.width)))
   outputs_stand nodes zero at (id ∷ ids) few nodes_most each st last = absurd (omega arith)
   outputs_stand nodes (suc room) at (id ∷ ids) few nodes_most each st last =
@@ -217,5 +217,5 @@ module _ (form : TableForm) (writable : Writable form) (s : List ℕ) where
       (stands_then (output_field form id) rest (sym here.end) st) (omega (arith, here.end, whole, last)) in
       let goes_on = ne_eqb at (length s) (λ e. omega (arith, here.end, whole, last)) in
       let found = outputs_from form s nodes room next in
-      (λ i. cond (goes_on i) (no_more Sound) (with_output (here.ruled i) (output_id form s at) found))
-      ∙ (λ i. with_output Sound (here.read i) (there i))
+      (λ i. cond (goes_on i) (no_more (Ok tt)) (with_output (here.ruled i) (output_id form s at) found))
+      ∙ (λ i. with_output (Ok tt) (here.read i) (there i))

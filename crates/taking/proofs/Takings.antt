@@ -1,6 +1,6 @@
 -- A table read whole can be ordered: its arrays hold a K-bounded net. And one promise allows one reply.
 use Prim.Native.Nat.{ℕ, ◌≤◌}
-use mathlib.Core.Path.{◌≡◌, ap, sym, subst, ◌∙◌}
+use mathlib.Core.Path.{◌≡◌, refl, ap, sym, subst, ◌∙◌}
 use mathlib.Core.Bool.{true≢false}
 use mathlib.Core.List.{List}
 use native.Mathlib.Omega.{arith}
@@ -10,25 +10,30 @@ use Rattle.theory.specs.paper.Sound.{Bounded}
 use Rattle.storage.specs.declared.Numbers.{Numbers}
 use Rattle.storage.specs.Drawings.{net_in, Drawn}
 use Rattle.storage.proofs.Drawings.{drawn_six}
-use Rattle.drawing.specs.declared.Reading.{Reading}
-use Rattle.drawing.specs.declared.Reading.TheVariants as read
+use Rattle.std.specs.Prelude.{⊤, Result, Ok, Err, MatchResult, IsErrAnd}
+use Rattle.std.proofs.lemmas.Result.{err_from_is_err_and}
+use Rattle.taking.specs.declared.TakeError.{TakeError}
+use Rattle.taking.specs.declared.TakeError.TheVariants.{LoopAt}
+use Rattle.storage.specs.declared.Node.{Node}
+use Rattle.drawing.specs.declared.ReadError.{ReadError}
+use Rattle.drawing.specs.declared.ReadError.TheVariants as read
 use Rattle.drawing.specs.paper.Limits.{most_nodes}
 use Rattle.drawing.specs.paper.Table.{net_of}
 use Rattle.drawing.specs.paper.Fields.{head_k, head_i}
 use Rattle.drawing.specs.paper.Reading.{nodes_of, table_of}
-use Rattle.drawing.specs.Reading.{Arrays, reading, filled}
+use Rattle.drawing.specs.Reading.{Reading, Arrays, reading, filled}
 use Rattle.drawing.proofs.SoundTables.{read_whole, table_sound}
 use Rattle.drawing.proofs.Held.{Holds, whole_holds}
 use Rattle.walking.specs.Promises.{OrderRoom, OrderMade}
 use Rattle.walking.proofs.Unique.{ruling_one, order_one}
-use Rattle.taking.specs.declared.Taking.{Taking}
-use Rattle.taking.specs.Taking.{after_order, TableOrdered, After, Takes}
+use Rattle.taking.specs.paper.Says.{Taking}
+use Rattle.taking.specs.Taking.{after_order, error_of, After, Takes}
 
 -- arrays that hold a table are drawn
 pub holds_drawn : {s : List ℕ} {after : Arrays} → Holds s after → Drawn (head_i s) (nodes_of s) (head_k s) after.lines.fanins
 holds_drawn {s} holds = record { lists = holds.lists; bounded = subst (λ (net : Net). Bounded net (head_k s)) (sym holds.net) holds.bounded }
 
-module _ (a : Arrays) (s : List ℕ) (n : Numbers) (whole : reading a s ≡ read.Whole n) {after : Arrays} (is : after ≡ filled a s) where
+module _ (a : Arrays) (s : List ℕ) (n : Numbers) (whole : reading a s ≡ Ok n) {after : Arrays} (is : after ≡ filled a s) where
   holds : Holds s after
   holds = let known = read_whole a s n whole in subst (Holds s) (sym is) (whole_holds a s known.long known.sound)
 
@@ -45,12 +50,32 @@ module _ (a : Arrays) (s : List ℕ) (n : Numbers) (whole : reading a s ≡ read
       subst (λ (m : Numbers). OrderRoom m.inputs m.nodes after.lines.fanins order marks) (sym known.numbers)
       (record { drawn = drawn_six (holds_drawn holds); small = omega arith; order_long = omega arith; marks_long = omega arith })
 
-  pub whole_after : {order₀ marks₀ : List ℕ} {r : Taking} {order marks : List ℕ} →
-      TableOrdered n after.lines.fanins order₀ marks₀ r order marks → After s order₀ marks₀ r order marks (reading a s)
-  whole_after {order₀} {marks₀} {r} {order} {marks} ordered =
+  pub whole_after : {order₀ marks₀ : List ℕ} {r : Taking} {order marks : List ℕ} (o : Result ⊤ Node) → r ≡ after_order n o →
+      OrderMade (net_in n.inputs n.nodes after.lines.fanins) order₀ marks₀ o order marks → After s order₀ marks₀ r order marks (reading a s)
+  whole_after {order₀} {marks₀} {r} {order} {marks} o reply made =
       subst (After s order₀ marks₀ r order marks) (sym whole)
-      (After.ordered ordered.ordering ordered.reply
-      (subst (λ (net : Net). OrderMade net order₀ marks₀ ordered.ordering order marks) same_net ordered.made))
+      (After.ordered o reply (subst (λ (net : Net). OrderMade net order₀ marks₀ o order marks) same_net made))
+
+-- a table that is not read is not ordered
+pub refused_after : {s order₀ marks₀ : List ℕ} (e : ReadError) → After s order₀ marks₀ (Err (error_of e)) order₀ marks₀ (Err e)
+refused_after (read.Refused r) = After.refused refl refl refl
+refused_after read.TooShort = After.short refl refl refl
+
+-- what became of the order's reply, an error of the table where there is a loop
+abbrev pub Mapped : Result ⊤ Node → Result ⊤ TakeError → Type 0
+Mapped o m = MatchResult o (λ y. m ≡ Ok y) (λ g. IsErrAnd m (λ t. t ≡ LoopAt g))
+
+pub ordered_ok : (n : Numbers) {m : Result ⊤ TakeError} {x : ⊤} (o : Result ⊤ Node) → Mapped o m → m ≡ Ok x → ◌≡◌ {A = Taking} (Ok n) (after_order n o)
+ordered_ok n (Ok _) p e = refl
+ordered_ok n {m} (Err g) p e = absurd (let q = err_from_is_err_and m p in let z : ◌≡◌ {A = ℕ} 0 1 = cc in omega arith)
+
+pub ordered_err : (n : Numbers) {m : Result ⊤ TakeError} {t : TakeError} (o : Result ⊤ Node) → Mapped o m → m ≡ Err t →
+    ◌≡◌ {A = Taking} (Err t) (after_order n o)
+ordered_err n (Ok _) p e = absurd (let z : ◌≡◌ {A = ℕ} 0 1 = cc in omega arith)
+ordered_err n {m} {t} (Err g) p e =
+    let q = err_from_is_err_and m p in
+    let same : q.0 ≡ t = cc in
+    ap Err (sym same ∙ q.2)
 
 -- Two replies that the promise allows are equal, and so is what the arrays hold.
 after_one : {s order₀ marks₀ : List ℕ} {r r' : Taking} {order marks order' marks' : List ℕ} {x : Reading} →

@@ -23,8 +23,7 @@ use Rattle.theory.proofs.Walks.{behind_on}
 use Rattle.theory.proofs.Decisions.{decide_member}
 use Rattle.walking.specs.Gathering.{Settled, Listing, Kept, Listed, Added, noted, noted_all}
 use Rattle.walking.specs.Searching.{Searched, LowestFound}
-use Rattle.walking.specs.Promises.{LoopRuling}
-use Rattle.walking.specs.declared.Ordering.TheVariants.{Whole, LoopAt}
+use Rattle.std.specs.Prelude.{None, Some}
 use Rattle.walking.proofs.Gatherings.{listing_size, kept_on, listed_same, listed_on, listed_as, note_listed}
 
 -- The list of nodes noted
@@ -250,9 +249,9 @@ pub record LowestLeft (inputs nodes : ℕ) (fanins list₀ marks₀ list marks :
 
 module _ {inputs nodes : ℕ} {fanins list₀ marks₀ list marks : List ℕ} {v : ℕ}
     (left : LowestLeft inputs nodes fanins list₀ marks₀ list marks v) where
-  pub lowest_none : nodes ≤ v → LowestFound inputs nodes fanins list₀ marks₀ Whole list marks
+  pub lowest_none : nodes ≤ v → LowestFound inputs nodes fanins list₀ marks₀ None list marks
   unfolding net_in
-  lowest_none all = record { reply = LoopRuling.none (λ g gate. left.none g gate.above (omega (arith, gate.below))); kept = left.kept }
+  lowest_none all = record { reply = λ g gate. left.none g gate.above (omega (arith, gate.below)); kept = left.kept }
 
   module _ {r : Bool} {list' marks' : List ℕ} (node : v < nodes) (searched : Searched inputs nodes fanins list marks v r list' marks') where
     pub lowest_turn : r ≡ false → LowestLeft inputs nodes fanins list₀ marks₀ list' marks' (v + 1)
@@ -268,16 +267,15 @@ module _ {inputs nodes : ℕ} {fanins list₀ marks₀ list marks : List ℕ} {v
         either h above below loop (yes e) = searched.reply.no out (subst (Loop (net_in inputs nodes fanins)) e loop)
         either h above below loop (no apart) = left.none h above (omega arith) loop
 
-    pub lowest_found : r ≡ true → LowestFound inputs nodes fanins list₀ marks₀ (LoopAt (record { id = v })) list' marks'
+    pub lowest_found : r ≡ true → LowestFound inputs nodes fanins list₀ marks₀ (Some (record { id = v })) list' marks'
     unfolding net_in
     lowest_found found =
         record {
           reply =
-              LoopRuling.lowest
-              (record {
+              record {
                 gate = record { above = left.low; below = node };
                 loop = searched.reply.yes found;
                 lowest = λ h less gate. left.none h gate.above less;
-              });
+              };
           kept = kept_on left.kept searched.kept;
         }

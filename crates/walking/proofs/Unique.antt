@@ -11,8 +11,8 @@ use Rattle.storage.proofs.InRoles.{walked_at, met_at, role_one}
 use Rattle.storage.proofs.InMarks.{tells_one, marks_inside}
 use Rattle.theory.specs.paper.Net.{Net}
 use Rattle.theory.specs.paper.Walk.{LowestLoop, NoLoop}
-use Rattle.walking.specs.declared.Ordering.{Ordering}
-use Rattle.walking.specs.declared.Ordering.TheVariants.{LoopAt}
+use Rattle.std.specs.Prelude.{⊤, Result, Err}
+use Rattle.storage.specs.declared.Node.{Node}
 use Rattle.walking.specs.Promises.{LoopRuling, OrderMade, entries_of, WalkMade, CutRuled}
 
 -- one lowest gate on a loop
@@ -28,17 +28,17 @@ pub some_loop : {net : Net} {g : ℕ} → NoLoop net → LowestLoop net g → �
 some_loop {g = g} none a = none g a.gate a.loop
 
 -- one ruling on loops
-pub ruling_one : {net : Net} {r s : Ordering} → LoopRuling net r → LoopRuling net s → r ≡ s
+pub ruling_one : {net : Net} {r s : Result ⊤ Node} → LoopRuling net r → LoopRuling net s → r ≡ s
 ruling_one (LoopRuling.none a) (LoopRuling.none b) = refl
 ruling_one (LoopRuling.none a) (LoopRuling.lowest b) = absurd (some_loop a b)
 ruling_one (LoopRuling.lowest a) (LoopRuling.none b) = absurd (some_loop b a)
-ruling_one (LoopRuling.lowest a) (LoopRuling.lowest b) = ap (λ (i : ℕ). LoopAt (record { id = i })) (lowest_one a b)
+ruling_one (LoopRuling.lowest a) (LoopRuling.lowest b) = ap (λ (i : ℕ). Err (record { id = i })) (lowest_one a b)
 
-pub order_one : {net : Net} {order₀ marks₀ : List ℕ} {r s : Ordering} {order marks order' marks' : List ℕ} →
+pub order_one : {net : Net} {order₀ marks₀ : List ℕ} {r s : Result ⊤ Node} {order marks order' marks' : List ℕ} →
     OrderMade net order₀ marks₀ r order marks → OrderMade net order₀ marks₀ s order' marks' → (r ≡ s) × (order ≡ order') × (marks ≡ marks')
 order_one {net} {order₀} a b =
     let same = ruling_one a.reply b.reply in
-    (same, a.entries ∙ ap (λ (x : Ordering). entries_of net x ++ drop (net.nodes - net.inputs) order₀) same ∙ sym b.entries, a.cleared ∙ sym b.cleared)
+    (same, a.entries ∙ ap (λ (x : Result ⊤ Node). entries_of net x ++ drop (net.nodes - net.inputs) order₀) same ∙ sym b.entries, a.cleared ∙ sym b.cleared)
 
 pub walk_one : {net : Net} {leaves : List ℕ} {t : ℕ} {roles₀ roles roles' : List ℕ} →
     WalkMade net leaves t roles₀ roles → WalkMade net leaves t roles₀ roles' → roles ≡ roles'

@@ -1,5 +1,5 @@
 -- What the public functions of this crate promise.
-use Rattle.std.specs.Prelude.{ℕ, ◌+◌, ◌-◌, ◌≤◌, ◌<◌, ◌≡◌, Bool, List, ◌++◌, length, get_or, drop, replicate}
+use Rattle.std.specs.Prelude.{ℕ, ◌+◌, ◌-◌, ◌≤◌, ◌<◌, ◌≡◌, Bool, List, ◌++◌, length, get_or, drop, replicate, ⊤, Result, Ok, Err}
 use Rattle.storage.specs.declared.Node.{Node}
 use Rattle.storage.specs.Drawings.{Drawn, Arranged}
 use Rattle.storage.specs.Entries.{cleared, Beyond}
@@ -7,14 +7,12 @@ use Rattle.storage.specs.Marks.{Marks, Tells}
 use Rattle.storage.specs.Roles.{walked_in, met_in}
 use Rattle.theory.specs.paper.Net.{Net}
 use Rattle.theory.specs.paper.Walk.{Walked, Met, LowestLoop, NoLoop, Cut}
-use Rattle.walking.specs.declared.Ordering.{Ordering}
-use Rattle.walking.specs.declared.Ordering.TheVariants.{Whole, LoopAt}
 use Rattle.walking.specs.Sweeps.{order_of}
 
 -- "7 Loop: some gate reaches itself along fanins; lowest such gate"
-pub data LoopRuling (net : Net) : Ordering → Type 0 where
-  none : NoLoop net → LoopRuling net Whole
-  lowest : {g : Node} → LowestLoop net g.id → LoopRuling net (LoopAt g)
+pub data LoopRuling (net : Net) : Result ⊤ Node → Type 0 where
+  none : NoLoop net → LoopRuling net (Ok tt)
+  lowest : {g : Node} → LowestLoop net g.id → LoopRuling net (Err g)
 
 -- The arrays hold a drawing (whatever its K), its ids fit 16 bits, and there is room for the order and for the marks.
 pub record OrderRoom (inputs nodes : ℕ) (fanins order marks : List ℕ) : Type 0 where
@@ -24,11 +22,11 @@ pub record OrderRoom (inputs nodes : ℕ) (fanins order marks : List ℕ) : Type
   pub marks_long : nodes ≤ length marks
 
 -- the order, or nothing but zeros where there is a loop
-abbrev pub entries_of : Net → Ordering → List ℕ
-entries_of net Whole = order_of net
-entries_of net (LoopAt g) = replicate (net.nodes - net.inputs) 0
+abbrev pub entries_of : Net → Result ⊤ Node → List ℕ
+entries_of net (Ok _) = order_of net
+entries_of net (Err g) = replicate (net.nodes - net.inputs) 0
 
-pub record OrderMade (net : Net) (order₀ marks₀ : List ℕ) (r : Ordering) (order marks : List ℕ) : Type 0 where
+pub record OrderMade (net : Net) (order₀ marks₀ : List ℕ) (r : Result ⊤ Node) (order marks : List ℕ) : Type 0 where
   pub reply : LoopRuling net r
   pub entries : order ≡ entries_of net r ++ drop (net.nodes - net.inputs) order₀
   pub cleared : marks ≡ cleared net.nodes marks₀

@@ -15,14 +15,7 @@ use storage::lists::node_at;
 use storage::roles::WALKED;
 use storage::{CutSize, Node, Numbers};
 
-// The order is made, or the lowest gate that reaches itself.
-#[derive(Clone, Copy)]
-pub enum Ordering {
-    Whole,
-    LoopAt(Node),
-}
-
-// Orders the gates by sweeps, fanins first, into the first entries of `order`. A drawing without a loop costs its sweeps alone:
+// Orders the gates by sweeps, fanins first, into the first entries of `order`; `Err` names the lowest gate that reaches itself. A drawing without a loop costs its sweeps alone:
 // one where fanins have lower ids, as many as gates in a chain that is numbered backwards. Only where gates are left over is a
 // loop looked for, back from each gate; `order` is its worklist, and is then cleared.
 pub fn order_gates(
@@ -30,7 +23,7 @@ pub fn order_gates(
     fanins: &[u16],
     order: &mut [u16],
     marks: &mut [u8],
-) -> Ordering
+) -> Result<(), Node>
     requires { OrderRoom numbers.inputs numbers.nodes fanins.now order.old marks.old }
     ensures { OrderMade (net_in numbers.inputs numbers.nodes fanins.now) order.old marks.old result
         order.new marks.new }
@@ -40,12 +33,12 @@ pub fn order_gates(
     marking::start(marks, numbers.inputs, nodes);
     if sweeping::sweep_all(numbers, fanins, order, marks) == gates {
         storage::marks::clear(marks, nodes);
-        return Ordering::Whole;
+        return Ok(());
     }
     let found = loops::lowest_loop(numbers, fanins, order, marks);
     storage::columns::clear(order, gates);
     storage::marks::clear(marks, nodes);
-    found
+    Err(found.unwrap())
 }
 
 // Walks back from `root` and stops at the leaves, in one pass back along the order: the roles say which nodes are walked and which

@@ -5,7 +5,6 @@ ghost use Rattle.walking.specs.Gathering.{Listing, Listed, noted_all};
 ghost use Rattle.walking.specs.Promises.{OrderRoom};
 ghost use Rattle.walking.specs.Searching.{Searched, LowestFound};
 
-use crate::Ordering;
 use crate::gathering::add;
 use crate::marking::start;
 use storage::lists::{entry_at, node_at, size_at};
@@ -62,7 +61,12 @@ fn reaches_itself(
 }
 
 // The lowest gate that reaches itself, if there is one.
-pub fn lowest_loop(numbers: Numbers, fanins: &[u16], list: &mut [u16], marks: &mut [u8]) -> Ordering
+pub fn lowest_loop(
+    numbers: Numbers,
+    fanins: &[u16],
+    list: &mut [u16],
+    marks: &mut [u8],
+) -> Option<Node>
     requires { OrderRoom numbers.inputs numbers.nodes fanins.now list.old marks.old }
     ensures { LowestFound numbers.inputs numbers.nodes fanins.now list.old marks.old result
         list.new marks.new }
@@ -72,9 +76,9 @@ pub fn lowest_loop(numbers: Numbers, fanins: &[u16], list: &mut [u16], marks: &m
     while v < nodes {
         let gate = Node { id: v as u16 };
         if reaches_itself(numbers, fanins, list, marks, gate) {
-            return Ordering::LoopAt(gate);
+            return Some(gate);
         }
         v += 1;
     }
-    Ordering::Whole
+    None
 }

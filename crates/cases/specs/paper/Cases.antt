@@ -1,5 +1,5 @@
 -- What document 01 says of a small drawing, from its bytes to the lister's lines, and what it is that all of it is so.
-use Rattle.std.specs.Prelude.{ℕ, ◌+◌, ◌≤◌, ◌<◌, ◌≡◌, length}
+use Rattle.std.specs.Prelude.{ℕ, ◌+◌, ◌≤◌, ◌<◌, ◌≡◌, length, Ok, Err}
 use Prim.Native.String.{String}
 use mathlib.Core.List.{List, [], ◌∷◌, ◌++◌, Memᴰ}
 use Rattle.theory.specs.paper.Net.{Gate}
@@ -8,9 +8,8 @@ use Rattle.theory.specs.paper.Walk.{LowestLoop}
 use Rattle.storage.specs.declared.Numbers.{Numbers}
 use Rattle.drawing.specs.paper.Table.{GateLine, Table, net_of, tables_of}
 use Rattle.drawing.specs.paper.Reading.{table_of}
-use Rattle.taking.specs.declared.Taking.{Taking}
-use Rattle.taking.specs.declared.Taking.TheVariants.{Taken, LoopAt}
-use Rattle.taking.specs.paper.Says.{Says, said}
+use Rattle.taking.specs.declared.TakeError.TheVariants.{LoopAt}
+use Rattle.taking.specs.paper.Says.{Taking, Says, said}
 use Rattle.sheet.specs.paper.Limits.{sheet_room}
 use Rattle.sheet.specs.paper.Sheet.{Line, Sheet, line_of}
 use Rattle.sheet.specs.paper.Encoding.{narrow, encode}
@@ -83,7 +82,7 @@ pub record SameSheet (table : Table) (sheet : Sheet) (size : ℕ) (prints : List
 -- The bytes are taken; the sheet given is the mapper's, keeps the rules and is right, and every mapper's sheet is that one but for evidence. What
 -- `list` prints and what `map` replies, where the buffer has room, follows.
 pub record MapsAs (bytes : List ℕ) (table : Table) (sheet : Sheet) (size : ℕ) (prints : List String) : Type 0 where
-  pub taken : Says bytes (Taken (numbers_for table))
+  pub taken : Says bytes (Ok (numbers_for table))
   pub bounded : Bounded (net_of table) table.k
   pub ranked : Ranked (net_of table)
   pub mappers : SheetOf table sheet
@@ -94,7 +93,7 @@ pub record MapsAs (bytes : List ℕ) (table : Table) (sheet : Sheet) (size : ℕ
   pub replies : (before : List ℕ) (r : Reply) (after : List ℕ) → Maps bytes before r after → sheet_room ≤ length before → mapper.said r ≡ (0, size)
 
 abbrev pub loop_at : (gate : ℕ) → Taking
-loop_at gate = LoopAt (record { id = gate })
+loop_at gate = Err (LoopAt (record { id = gate }))
 
 -- The bytes are refused for the loop, at its lowest gate, by `list` and by `map`. "A refusal prints one line".
 pub record LoopsAs (bytes : List ℕ) (table : Table) (lowest : ℕ) (prints : List String) : Type 0 where

@@ -1,11 +1,10 @@
 -- The three demands of the minutes, over the promises of `map` (`Maps`) and `inspect` (`Inspects`) and the words of document 01. That a reply is
 -- given at all, and the run ends, is the kit's part: both functions are proved to end with a reply that their promise allows, for all bytes.
-use Rattle.std.specs.Prelude.{ℕ, ◌≤◌, ◌<◌, ◌≡◌, ◌↔◌, List, length, take, drop}
+use Rattle.std.specs.Prelude.{ℕ, ◌≤◌, ◌<◌, ◌≡◌, ◌↔◌, List, length, take, drop, Err}
 use Rattle.theory.specs.paper.Net.{Gate}
 use Rattle.theory.specs.paper.Walk.{Loop, LowestLoop}
 use Rattle.theory.specs.paper.Cover.{Label}
 use Rattle.drawing.specs.declared.Refusal.{Refusal}
-use Rattle.drawing.specs.declared.Verdict.TheVariants.{Refused as RefusedFor}
 use Rattle.drawing.specs.paper.Refusals as table
 use Rattle.drawing.specs.paper.Fields.{head_k}
 use Rattle.drawing.specs.paper.Table.{tables_of}
@@ -50,7 +49,7 @@ pub data SameReply (s : List ℕ) (r q : Reply) (after after' : List ℕ) : Type
 -- The list: a table and a buffer are refused with this number and place: 1 to 6 for the first fault of the reading; 7 for a loop, at its lowest gate; 8 for a buffer
 -- that is too short, at 49,152.
 pub data MapperRefuses (s before : List ℕ) : ℕ × ℕ → Type 0 where
-  faulty : {x : Refusal} → (found s).verdict ≡ RefusedFor x → MapperRefuses s before (table.said x)
+  faulty : {x : Refusal} → (found s).verdict ≡ Err x → MapperRefuses s before (table.said x)
   loop : {g : ℕ} → ReadsWhole s → LowestLoop (drawn s) g → MapperRefuses s before (loop_number, g)
   room : IsTaken s → length before < sheet_room → MapperRefuses s before (room_number, sheet_room)
 
@@ -72,7 +71,7 @@ Demand1 = (s before : List ℕ) (r : Reply) (after : List ℕ) → Maps s before
 -- The same of a sheet. A table and a sheet are refused with this number and place: 1 to 7 as the mapper does; for a table taken, 21 to 24 and 31 for the first fault of the
 -- sheet's shape; for a sheet of sound shape, 25 to 30 for the first rule that is not kept, with the number and place of the reply that names it.
 pub data InspectorRefuses (s t : List ℕ) : ℕ × ℕ → Type 0 where
-  faulty : {x : Refusal} → (found s).verdict ≡ RefusedFor x → InspectorRefuses s t (table.said x)
+  faulty : {x : Refusal} → (found s).verdict ≡ Err x → InspectorRefuses s t (table.said x)
   loop : {g : ℕ} → ReadsWhole s → LowestLoop (drawn s) g → InspectorRefuses s t (loop_number, g)
   misshapen : {f : Fault} → IsTaken s → (reading (due_in s) t).ruling ≡ ruling.Faulty f → InspectorRefuses s t (shape.said f)
   broken : {rule : Rule} → IsTaken s → (reading (due_in s) t).ruling ≡ ruling.Sound → FirstBroken (KeepsIn s t) (rules_in s t) (Found.broken rule) →

@@ -1,8 +1,7 @@
 -- The fields of a gate table, and what each is refused for.
-use Rattle.std.specs.Prelude.{ℕ, ◌+◌, ◌*◌, ◌-◌, ◌^◌, Bool, false, not, ◌||◌, List, [], ◌∷◌, ◌++◌, length, get_or, ltb, leb, eqb}
+use Rattle.std.specs.Prelude.{ℕ, ◌+◌, ◌*◌, ◌-◌, ◌^◌, Bool, false, not, ◌||◌, List, [], ◌∷◌, ◌++◌, length, get_or, ltb, leb, eqb, ⊤, Result, Ok, Err}
+use Rattle.drawing.specs.declared.Refusal.{Refusal}
 use Rattle.drawing.specs.declared.Refusal.TheVariants.{Torn, Tag, Length, Range, Rows, Outputs}
-use Rattle.drawing.specs.declared.Verdict.{Verdict}
-use Rattle.drawing.specs.declared.Verdict.TheVariants.{Sound, Refused}
 use Rattle.drawing.specs.declared.TableForm.{TableForm}
 use Rattle.drawing.specs.paper.Limits.{least_k, most_k, least_inputs, most_inputs, version, frame_size, rows_size}
 use Rattle.drawing.specs.paper.Forms.{form_of, gate_size, least_gate, most_gate}
@@ -10,21 +9,25 @@ use Rattle.drawing.specs.paper.Rules.{Rule, ◌⇒◌, first}
 use Rattle.drawing.specs.paper.Bytes.{tag_at, length_at, value_at, number_at, ids_at, some_from}
 use Rattle.drawing.specs.paper.Table.{GateLine}
 
+-- the ruling on a field: sound, or refused
+abbrev pub Verdict : Type 0
+Verdict = Result ⊤ Refusal
+
 -- "Within a field: fewer than 3 bytes, tag, 65th output, value past the end, length, range, rows." The first four are of every field's frame.
 abbrev pub frame_rules : (s : List ℕ) (at due : ℕ) (surplus : Bool) → List (Rule Verdict)
 frame_rules s at due surplus =
-    (ltb (length s - at) frame_size ⇒ Refused (Torn at))
-    ∷ (not (eqb (tag_at s at) due) ⇒ Refused (Tag at))
-    ∷ (surplus ⇒ Refused (Outputs at))
-    ∷ (ltb (length s - value_at at) (length_at s at) ⇒ Refused (Torn at))
+    (ltb (length s - at) frame_size ⇒ Err (Torn at))
+    ∷ (not (eqb (tag_at s at) due) ⇒ Err (Tag at))
+    ∷ (surplus ⇒ Err (Outputs at))
+    ∷ (ltb (length s - value_at at) (length_at s at) ⇒ Err (Torn at))
     ∷ []
 
 -- "length, range, rows": these are of a field's value, and what breaks each is said where the field is
 abbrev pub value_rules : (at : ℕ) (length-wrong out_of_range row-set : Bool) → List (Rule Verdict)
 value_rules at length-wrong out_of_range row-set =
-    (length-wrong ⇒ Refused (Length at))
-    ∷ (out_of_range ⇒ Refused (Range at))
-    ∷ (row-set ⇒ Refused (Rows at))
+    (length-wrong ⇒ Err (Length at))
+    ∷ (out_of_range ⇒ Err (Range at))
+    ∷ (row-set ⇒ Err (Rows at))
     ∷ []
 
 -- "Tag 1, head, 4 bytes: version 1, K, I, G.": a byte each, but G is as wide as an id
@@ -54,7 +57,7 @@ abbrev pub head_rules : TableForm → List ℕ → List (Rule Verdict)
 head_rules form s = value_rules 0 (not (eqb (length_at s 0) form.size)) (head_out_of_range form s) false
 
 abbrev pub head_ruling : TableForm → List ℕ → Verdict
-head_ruling form s = first Sound (frame_rules s 0 form.head false ++ head_rules form s)
+head_ruling form s = first (Ok tt) (frame_rules s 0 form.head false ++ head_rules form s)
 
 unfoldable pub head_verdict : List ℕ → Verdict
 head_verdict s = head_ruling (form_of s) s
@@ -91,7 +94,7 @@ module _ (form : TableForm) (s : List ℕ) where
   gate_rules at k nodes = value_rules at (gate_length_wrong at) (gate_out_of_range at k nodes) (gate_row_set at)
 
   unfoldable pub gate_verdict : (at k nodes : ℕ) → Verdict
-  gate_verdict at k nodes = first Sound (frame_rules s at form.gate false ++ gate_rules at k nodes)
+  gate_verdict at k nodes = first (Ok tt) (frame_rules s at form.gate false ++ gate_rules at k nodes)
 
   -- "Tag 3, output, 1 byte: a node id. It may be an input, and may repeat." `room` is how many more may follow.
   abbrev pub output_id : ℕ → ℕ
@@ -101,4 +104,4 @@ module _ (form : TableForm) (s : List ℕ) where
   output_rules at nodes = value_rules at (not (eqb (length_at s at) form.width)) (leb nodes (output_id at)) false
 
   unfoldable pub output_verdict : (at room nodes : ℕ) → Verdict
-  output_verdict at room nodes = first Sound (frame_rules s at form.output (eqb room 0) ++ output_rules at nodes)
+  output_verdict at room nodes = first (Ok tt) (frame_rules s at form.output (eqb room 0) ++ output_rules at nodes)

@@ -1,11 +1,10 @@
 -- What the inspector says of a gate table's bytes and a sheet's: "first replies 1 to 7 for a bad gate table. Then four passes: shape, gates
 -- rising, LUTs rising, whole."
-use Rattle.std.specs.Prelude.{ℕ, ◌≡◌}
+use Rattle.std.specs.Prelude.{ℕ, ◌≡◌, Err}
 use mathlib.Core.List.{List, Memᴰ}
 use Rattle.theory.specs.paper.Walk.{LowestLoop}
 use Rattle.storage.specs.declared.Node.{Node}
 use Rattle.drawing.specs.declared.Refusal.{Refusal}
-use Rattle.drawing.specs.declared.Verdict.TheVariants.{Refused as RefusedFor}
 use Rattle.drawing.specs.paper.Refusals as table
 use Rattle.drawing.specs.paper.Fields.{head_k}
 use Rattle.drawing.specs.paper.Table.{tables_of}
@@ -71,7 +70,7 @@ module _ (s t : List ℕ) where
   -- The one reply: the table's refusal, else the first fault of the sheet's shape, else the first rule that is not kept, else acceptance.
   pub data Inspects : Inspection → Type 0 where
     -- 1 to 6, and 7
-    refused : {x : Refusal} → (found s).verdict ≡ RefusedFor x → Inspects (Refused x)
+    refused : {x : Refusal} → (found s).verdict ≡ Err x → Inspects (Refused x)
     loop : {g : Node} → ReadsWhole s → LowestLoop (drawn s) g.id → Inspects (LoopAt g)
     -- 21 to 24, and 31
     faulty : {f : Fault} → IsTaken s → (reading (due_in s) t).ruling ≡ ruling.Faulty f → Inspects (Shape f)

@@ -1,8 +1,10 @@
 -- `list` meets its contract: what is said of the table comes first, and a table taken is listed.
 use native.Mathlib.Omega.{arith}
 use Prim.Native.Nat.{◌≤◌, ◌<◌}
-use mathlib.Core.Path.{refl}
+use mathlib.Core.Path.{◌≡◌, refl}
 use lib.ListN.{length}
+use Rattle.std.proofs.Common.{rules, Err}
+use Rattle.taking.specs.declared.TakeError.TheVariants.{Refused, LoopAt, TooShort}
 use Rattle.taking.proofs.Judged.{table_taken, says, never_short}
 use Rattle.wording.specs.paper.Filled.{Filled}
 use Rattle.wording.proofs.Filled.{front, refused_as}
@@ -17,7 +19,7 @@ returns-then-text-lt-TEXT_ROOM c =
 pub list_taken-requires : goal.list_taken-requires
 list_taken-requires c =
     let known = table_taken c.take_table-taken.ensures (omega arith) (omega arith) (omega arith)
-    (omega arith) (omega arith) c.in-Taken.is c.take_table-taken.auto.rows c.take_table-taken.auto.outputs c.take_table-taken.auto.order in
+    (omega arith) (omega arith) c.in-Ok.is c.take_table-taken.auto.rows c.take_table-taken.auto.outputs c.take_table-taken.auto.order in
     let long : 18595 ≤ length c.args.text.now = omega (arith, c.if-text-lt-TEXT_ROOM.false) in
     list_asked known.ready known.numbers_are long
 
@@ -25,36 +27,36 @@ pub write_refused-requires : goal.write_refused-requires
 write_refused-requires c =
     omega (arith, c.if-text-lt-TEXT_ROOM.false)
 
-pub write_refused-requires-in-LoopAt : goal.write_refused-requires-in-LoopAt
-write_refused-requires-in-LoopAt c =
+pub write_refused-requires-in-Err-LoopAt : goal.write_refused-requires-in-Err-LoopAt
+write_refused-requires-in-Err-LoopAt c =
     omega (arith, c.if-text-lt-TEXT_ROOM.false)
 
-pub returns-in-Taken : goal.returns-in-Taken
-returns-in-Taken c =
+pub returns-in-Ok : goal.returns-in-Ok
+returns-in-Ok c =
     let known = table_taken c.take_table-taken.ensures (omega arith) (omega arith) (omega arith)
-    (omega arith) (omega arith) c.in-Taken.is c.take_table-taken.auto.rows c.take_table-taken.auto.outputs c.take_table-taken.auto.order in let asked =
+    (omega arith) (omega arith) c.in-Ok.is c.take_table-taken.auto.rows c.take_table-taken.auto.outputs c.take_table-taken.auto.order in let asked =
     front (lists_taken known.ready known.numbers_are c.if-text-lt-TEXT_ROOM.false c.list_taken.ensures) in record { lists = asked.0; front = asked.1 }
 
-pub returns-in-Refused : goal.returns-in-Refused
-returns-in-Refused c = let asked =
+pub returns-in-Err-Refused : goal.returns-in-Err-Refused
+returns-in-Err-Refused c = let asked =
     front
     (lists_refused
     (says c.take_table-taken.ensures (omega arith) (omega arith) (omega arith) (omega arith)
     (omega arith))
-    c.in-Refused.is c.if-text-lt-TEXT_ROOM.false
+    (let is : c.take_table-taken.result ≡ Err (Refused c.in-Err-Refused.r) = search rules in is) c.if-text-lt-TEXT_ROOM.false
     (refused_as c.number_of.ensures c.place_of.ensures
     c.write_refused.ensures)) in record { lists = asked.0; front = asked.1 }
 
-pub returns-in-LoopAt : goal.returns-in-LoopAt
-returns-in-LoopAt c = let asked =
+pub returns-in-Err-LoopAt : goal.returns-in-Err-LoopAt
+returns-in-Err-LoopAt c = let asked =
     front
     (lists_loop
     (says c.take_table-taken.ensures (omega arith) (omega arith) (omega arith) (omega arith)
     (omega arith))
-    c.in-LoopAt.is c.if-text-lt-TEXT_ROOM.false c.write_refused-in-LoopAt.ensures) in record { lists = asked.0; front = asked.1 }
+    (let is : c.take_table-taken.result ≡ Err (LoopAt c.in-Err-LoopAt.gate) = search rules in is) c.if-text-lt-TEXT_ROOM.false c.write_refused-in-Err-LoopAt.ensures) in record { lists = asked.0; front = asked.1 }
 
-pub returns-in-TooShort : goal.returns-in-TooShort
-returns-in-TooShort c =
+pub returns-in-Err-TooShort : goal.returns-in-Err-TooShort
+returns-in-Err-TooShort c =
     absurd
     (never_short c.take_table-taken.ensures (omega arith) (omega arith) (omega arith) (omega arith)
-    (omega arith) c.in-TooShort.is)
+    (omega arith) (let is : c.take_table-taken.result ≡ Err TooShort = search rules in is))

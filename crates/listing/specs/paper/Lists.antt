@@ -4,9 +4,8 @@ use Rattle.drawing.specs.paper.Limits.{most_nodes, most_outputs}
 use Rattle.drawing.specs.paper.Fields.{head_k}
 use Rattle.drawing.specs.paper.Table.{tables_of}
 use Rattle.drawing.specs.paper.Reading.{table_of, roots_of}
-use Rattle.taking.specs.declared.Taking.{Taking}
 use Rattle.taking.specs.paper.Taken.{drawn, IsTaken}
-use Rattle.taking.specs.paper.Says.{Says, number, place}
+use Rattle.taking.specs.paper.Says.{Taking, Says, number, place}
 use Rattle.sheet.specs.paper.Sheet.{Sheet}
 use Rattle.wording.specs.paper.Text.{listing_of, refused_line}
 use Rattle.wording.specs.paper.Filled.{Filled}

@@ -1,9 +1,8 @@
 -- What the mapper promises: refusals 1 to 8 of the paper, each with the buffer as before; else the mapper's sheet.
-use Rattle.std.specs.Prelude.{ℕ, ◌≤◌, ◌<◌, ◌≡◌, List, ◌++◌, length, drop}
+use Rattle.std.specs.Prelude.{ℕ, ◌≤◌, ◌<◌, ◌≡◌, List, ◌++◌, length, drop, Err}
 use Rattle.storage.specs.declared.Node.{Node}
 use Rattle.theory.specs.paper.Walk.{LowestLoop}
 use Rattle.drawing.specs.declared.Refusal.{Refusal}
-use Rattle.drawing.specs.declared.Verdict.TheVariants.{Refused as RefusedFor}
 use Rattle.drawing.specs.paper.Refusals as table
 use Rattle.drawing.specs.paper.Fields.{head_k}
 use Rattle.drawing.specs.paper.Table.{tables_of}
@@ -39,7 +38,7 @@ MapsTo s sheet = MappersSheet (drawn s) (tables_of (table_of s)) (head_k s) (roo
 -- place, and the sheet buffer is as before. Success returns the sheet's length; buffer bytes from there on are as before."
 pub data Maps (s before : List ℕ) (r : Reply) (after : List ℕ) : Type 0 where
   -- 1 to 6: the table's first fault
-  refused : {x : Refusal} → (found s).verdict ≡ RefusedFor x → r ≡ Refused x → after ≡ before → Maps s before r after
+  refused : {x : Refusal} → (found s).verdict ≡ Err x → r ≡ Refused x → after ≡ before → Maps s before r after
   -- 7: "some gate reaches itself along fanins", at the "lowest such gate"
   loop : {g : Node} → ReadsWhole s → LowestLoop (drawn s) g.id → r ≡ LoopAt g → after ≡ before → Maps s before r after
   -- 8: "sheet buffer shorter than 49,152"

@@ -1,74 +1,47 @@
 -- `take_table` meets its contract: short arrays and refusals leave the order as it was; a whole table is ordered.
 use native.Mathlib.Omega.{arith}
-use mathlib.Core.Path.{refl, sym, subst, ◌∙◌}
-use mathlib.Core.Bool.{and-false}
-use lib.ListN.{length}
-use lib.Dec.{leb}
-use borrow.Author.Tests.{lt-leb}
-use Rattle.drawing.specs.paper.Limits.{most_nodes}
+use mathlib.Core.Path.{sym, subst, ◌∙◌}
+use Rattle.std.proofs.lemmas.Result.{err_from_is_err_and}
 use Rattle.drawing.specs.Reading.{arrays_of}
 use Rattle.taking.specs.Taking.{After, Takes}
-use Rattle.taking.proofs.Takings.{whole_room, whole_after}
+use Rattle.taking.proofs.Takings.{whole_room, whole_after, refused_after, ordered_ok, ordered_err}
 use Rattle.taking.proofs.Judged.{roomy_long}
 use Rattle.taking.proofs.take_table.Goals as goal
 
--- src/lib.rt:47:9
-pub returns-then-order-lt-MOST_NODES : goal.returns-then-order-lt-MOST_NODES
-returns-then-order-lt-MOST_NODES c =
+pub returns-in_err-numbers : goal.returns-in_err-numbers
+returns-in_err-numbers c =
     let a = c.args in
-    Takes.short (simp (lt-leb most_nodes (length a.order.now) (omega arith))) refl refl refl refl
+    let read = c.read.ensures in
+    let long = roomy_long a.order.now a.marks.now (omega (arith, c.if-order-lt-MOST_NODES.false)) (omega (arith, c.if-marks-lt-MOST_NODES.false)) in
+    let p = err_from_is_err_and c.from_residual.result c.from_residual.ensures.1 in
+    rw (p.1, p.2)
+    (Takes.long long read.arrays
+    (subst (After a.table.now a.order.now a.marks.now _ a.order.now a.marks.now) (sym c.in_err-numbers.was ∙ read.reply)
+    (refused_after c.in_err-numbers.field-0.0)))
 
--- src/lib.rt:50:9
-pub returns-then-marks-lt-MOST_NODES : goal.returns-then-marks-lt-MOST_NODES
-returns-then-marks-lt-MOST_NODES c =
+pub order_gates-requires : goal.order_gates-requires
+order_gates-requires c =
     let a = c.args in
-    Takes.short
-    (simp (
-      lt-leb most_nodes (length a.marks.now) (omega arith),
-      and-false (leb most_nodes (length a.order.now)),
-    ))
-    refl refl refl refl
+    let read = c.read.ensures in
+    whole_room (arrays_of a.fanins.now a.rows.now a.outputs.now) a.table.now _ (sym read.reply ∙ c.in_ok-numbers.was) read.arrays a.order.now
+    a.marks.now (omega (arith, c.if-order-lt-MOST_NODES.false)) (omega (arith, c.if-marks-lt-MOST_NODES.false))
 
--- src/lib.rt:54:36
-pub order_table-requires : goal.order_table-requires
-order_table-requires c =
+pub returns-in_err-map_err : goal.returns-in_err-map_err
+returns-in_err-map_err c =
     let a = c.args in
-    let arrays = arrays_of a.fanins.now a.rows.now a.outputs.now in
-    let read = c.read-reply.ensures in
-    let whole = sym read.reply ∙ c.in-Whole.is in
-    whole_room arrays a.table.now _ whole read.arrays a.order.now a.marks.now
-    (omega (arith, c.if-order-lt-MOST_NODES.false)) (omega (arith, c.if-marks-lt-MOST_NODES.false))
-
--- src/lib.rt:34:1
-pub returns-in-Whole : goal.returns-in-Whole
-returns-in-Whole c =
-    let a = c.args in
-    let arrays = arrays_of a.fanins.now a.rows.now a.outputs.now in
-    let read = c.read-reply.ensures in
-    let long = roomy_long a.order.now a.marks.now (omega (arith, c.if-order-lt-MOST_NODES.false))
-    (omega (arith, c.if-marks-lt-MOST_NODES.false)) in
-    let whole = sym read.reply ∙ c.in-Whole.is in
+    let read = c.read.ensures in
+    let long = roomy_long a.order.now a.marks.now (omega (arith, c.if-order-lt-MOST_NODES.false)) (omega (arith, c.if-marks-lt-MOST_NODES.false)) in
+    let p = err_from_is_err_and c.from_residual-in_err-map_err.result c.from_residual-in_err-map_err.ensures.1 in
     Takes.long long read.arrays
-    (whole_after arrays a.table.now _ whole read.arrays c.order_table.ensures)
+    (whole_after (arrays_of a.fanins.now a.rows.now a.outputs.now) a.table.now _ (sym read.reply ∙ c.in_ok-numbers.was) read.arrays
+    c.order_gates.result
+    (rw (p.1, p.2) (ordered_err _ c.order_gates.result c.map_err.ensures.cases c.in_err-map_err.was)) c.order_gates.ensures)
 
--- src/lib.rt:34:1
-pub returns-in-Refused : goal.returns-in-Refused
-returns-in-Refused c =
+pub returns : goal.returns
+returns c =
     let a = c.args in
-    let read = c.read-reply.ensures in
-    let long = roomy_long a.order.now a.marks.now (omega (arith, c.if-order-lt-MOST_NODES.false))
-    (omega (arith, c.if-marks-lt-MOST_NODES.false)) in
+    let read = c.read.ensures in
+    let long = roomy_long a.order.now a.marks.now (omega (arith, c.if-order-lt-MOST_NODES.false)) (omega (arith, c.if-marks-lt-MOST_NODES.false)) in
     Takes.long long read.arrays
-    (subst (After a.table.now a.order.now a.marks.now _ a.order.now a.marks.now)
-    (sym c.in-Refused.is ∙ read.reply) (After.refused refl refl refl))
-
--- src/lib.rt:34:1
-pub returns-in-TooShort : goal.returns-in-TooShort
-returns-in-TooShort c =
-    let a = c.args in
-    let read = c.read-reply.ensures in
-    let long = roomy_long a.order.now a.marks.now (omega (arith, c.if-order-lt-MOST_NODES.false))
-    (omega (arith, c.if-marks-lt-MOST_NODES.false)) in
-    Takes.long long read.arrays
-    (subst (After a.table.now a.order.now a.marks.now _ a.order.now a.marks.now)
-    (sym c.in-TooShort.is ∙ read.reply) (After.short refl refl refl))
+    (whole_after (arrays_of a.fanins.now a.rows.now a.outputs.now) a.table.now _ (sym read.reply ∙ c.in_ok-numbers.was) read.arrays
+    c.order_gates.result (ordered_ok _ c.order_gates.result c.map_err.ensures.cases c.in_ok-map_err.was) c.order_gates.ensures)

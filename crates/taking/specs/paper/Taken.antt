@@ -2,7 +2,7 @@
 use Rattle.std.specs.Prelude.{◌≡◌, List, ℕ}
 use Rattle.theory.specs.paper.Net.{Net}
 use Rattle.theory.specs.paper.Walk.{NoLoop}
-use Rattle.drawing.specs.declared.Verdict.TheVariants.{Sound}
+use Rattle.std.specs.Prelude.{Ok}
 use Rattle.drawing.specs.paper.Table.{net_of}
 use Rattle.drawing.specs.paper.Reading.{found, table_of}
 
@@ -12,7 +12,7 @@ drawn s = net_of (table_of s)
 
 -- the bytes read whole
 abbrev pub ReadsWhole : List ℕ → Type 0
-ReadsWhole s = (found s).verdict ≡ Sound
+ReadsWhole s = (found s).verdict ≡ Ok tt
 
 -- "table taken": it reads whole and has no loop
 pub record IsTaken (s : List ℕ) : Type 0 where

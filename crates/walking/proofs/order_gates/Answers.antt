@@ -1,7 +1,7 @@
 -- `order_gates` meets its contract: by what the sweeps and the search leave.
 use Rattle.storage.proofs.Drawings.{drawn_span}
 use Rattle.walking.proofs.Fills.{start_listing}
-use Rattle.walking.proofs.Outcomes.{made_whole, made_loop}
+use Rattle.walking.proofs.Outcomes.{made_whole, loop_found, made_loop}
 use Rattle.walking.proofs.order_gates.Goals as goal
 
 pub overflow_sub-gates : goal.overflow_sub-gates
@@ -21,9 +21,11 @@ returns-then-sweep_all-gates c =
     made_whole c.requires c.start.ensures c.sweep_all.ensures c.if-sweep_all-gates.true
     c.clear.ensures
 
+pub unwrap-requires : goal.unwrap-requires
+unwrap-requires c =
+    loop_found c.requires c.start.ensures c.sweep_all.ensures c.lowest_loop-found.ensures c.if-sweep_all-gates.false
+
 pub returns : goal.returns
 returns c =
-    let swept = c.sweep_all.ensures in
-    let found = c.lowest_loop-found.ensures in
-    made_loop c.requires c.start.ensures swept c.if-sweep_all-gates.false found
+    made_loop c.requires c.start.ensures c.sweep_all.ensures c.lowest_loop-found.ensures c.unwrap.ensures
     c.clear-2.ensures c.clear-3.ensures

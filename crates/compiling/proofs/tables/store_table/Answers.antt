@@ -1,5 +1,6 @@
 -- `store_table` meets its contract: a loop is refused, then a buffer that is too short; else the bytes are copied.
 use native.Mathlib.Omega.{arith}
+use Rattle.std.proofs.Common.{rules}
 use mathlib.Core.Path.{refl, ap}
 use mathlib.Core.List.{◌++◌, List}
 use lib.ListN.{length, drop}
@@ -11,27 +12,27 @@ use Rattle.compiling.proofs.tables.store_table.Goals as goal
 pub returns-then-table-lt-TABLE_ROOM : goal.returns-then-table-lt-TABLE_ROOM
 returns-then-table-lt-TABLE_ROOM c =
     λ table within is.
-    Kept.room (taken_no_loop (c.judge-taken.ensures table within is) c.in-Taken.is)
+    Kept.room (taken_no_loop (c.judge-taken.ensures table within is) c.in-Ok.is)
     c.if-table-lt-TABLE_ROOM.true refl refl
 
 pub returns-else-table-lt-TABLE_ROOM : goal.returns-else-table-lt-TABLE_ROOM
 returns-else-table-lt-TABLE_ROOM c =
     λ table within is.
-    Kept.stored (taken_no_loop (c.judge-taken.ensures table within is) c.in-Taken.is)
+    Kept.stored (taken_no_loop (c.judge-taken.ensures table within is) c.in-Ok.is)
     (omega arith) refl
     (ap (λ (l : List ℕ). l ++ drop (length c.args.written.now) c.args.table.now) c.copy_from_slice.ensures.after)
 
-pub returns-in-LoopAt : goal.returns-in-LoopAt
-returns-in-LoopAt c =
+pub returns-in-Err-LoopAt : goal.returns-in-Err-LoopAt
+returns-in-Err-LoopAt c =
     λ table within is.
-    Kept.loop (loop_lowest (c.judge-taken.ensures table within is) c.in-LoopAt.is) refl refl
+    Kept.loop (loop_lowest (c.judge-taken.ensures table within is) (search rules)) refl refl
 
-pub returns-in-Refused : goal.returns-in-Refused
-returns-in-Refused c =
+pub returns-in-Err-Refused : goal.returns-in-Err-Refused
+returns-in-Err-Refused c =
     λ table within is.
-    absurd (never_refused (c.judge-taken.ensures table within is) c.in-Refused.is)
+    absurd (never_refused {x = c.in-Err-Refused.field-0-0} (c.judge-taken.ensures table within is) (search rules))
 
-pub returns-in-TooShort : goal.returns-in-TooShort
-returns-in-TooShort c =
+pub returns-in-Err-TooShort : goal.returns-in-Err-TooShort
+returns-in-Err-TooShort c =
     λ table within is.
-    absurd (never_short (c.judge-taken.ensures table within is) c.in-TooShort.is)
+    absurd (never_short (c.judge-taken.ensures table within is) (search rules))

@@ -2,8 +2,5 @@
 use Rattle.drawing.proofs.Filled.{IdsLeft}
 use Rattle.drawing.proofs.filling.put_ids.Given as goal
 
-abbrev pub invariant-loop-left : goal.invariant-loop-left
-invariant-loop-left l = IdsLeft l.s l.at l.width l.count l.initial.ids l.to l.ids l.next l.place l.left
-
-abbrev pub decreases-loop-left : goal.decreases-loop-left
-decreases-loop-left l = l.left
+abbrev pub invariant-loop-i : goal.invariant-loop-i
+invariant-loop-i l = IdsLeft l.s l.at l.width l.count l.initial.ids l.to l.ids l.i
