@@ -61,9 +61,7 @@ pub fn walk(
     storage::marks::clear(roles, nodes);
     let start = root.id as usize;
     roles[start] = WALKED;
-    let mut i = nodes - inputs;
-    while 0 < i {
-        i -= 1;
+    for i in (0..nodes - inputs).rev() {
         cones::pass(fanins, node_at(order, i), leaves, size, roles);
     }
 }

@@ -13,16 +13,16 @@ pub bounds-roles-start : goal.bounds-roles-start
 bounds-roles-start c =
     omega (arith, c.requires.node, c.requires.roles_long, c.clear.auto.marks)
 
-pub overflow_sub-i : goal.overflow_sub-i
-overflow_sub-i c =
+pub overflow_step-i : goal.overflow_step-i
+overflow_step-i c =
     drawn_span c.requires.drawing.drawn
 
 pub loop-i-init : goal.loop-i-init
 loop-i-init c =
     (omega arith, walk_begins c.requires c.clear.ensures refl)
 
-pub overflow_sub-i-in-loop-i : goal.overflow_sub-i-in-loop-i
-overflow_sub-i-in-loop-i c = c.loop-i-test.true
+pub overflow_step-i-in-loop-i : goal.overflow_step-i-in-loop-i
+overflow_step-i-in-loop-i c = c.loop-i-test.true
 
 pub node_at-requires : goal.node_at-requires
 node_at-requires c =
