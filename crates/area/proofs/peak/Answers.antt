@@ -1,5 +1,4 @@
 -- `peak` meets its contract: so far, the greatest label of the fanins passed.
-use native.Mathlib.Omega.{arith}
 use mathlib.Core.Path.{refl}
 use Rattle.theory.specs.paper.Lists.{greatest}
 use Rattle.std.proofs.lemmas.List.{take_all}

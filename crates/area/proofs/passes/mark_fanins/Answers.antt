@@ -1,15 +1,11 @@
 -- `mark_fanins` meets its contract: the fanins passed that lay in the area are ends.
 use native.Mathlib.Omega.{arith}
-use mathlib.Core.Path.{◌≡◌, refl}
+use mathlib.Core.Path.{refl}
 use mathlib.Core.Logic.{inl, inr}
-use Rattle.std.proofs.lemmas.List.{take_all}
 use Rattle.storage.proofs.Drawings.{fed_entry}
-use Rattle.area.proofs.Ends.{fanins_none, fanins_turn}
+use Rattle.area.proofs.Ends.{fanins_turn}
 use Rattle.area.proofs.passes.mark_fanins.Goals as goal
 use Rattle.area.proofs.passes.mark_fanins.Goals.{then-roles-v-eq-AREA, else-roles-v-eq-AREA}
-
-pub loop-id-init : goal.loop-id-init
-loop-id-init c = fanins_none c.list_at-id-items.result.now _
 
 pub bounds-roles-v : goal.bounds-roles-v
 bounds-roles-v c =
@@ -24,8 +20,3 @@ loop-id-preserved c =
       | then-roles-v-eq-AREA w ↦ inl (w.if-roles-v-eq-AREA.true, w.roles-is)
       | else-roles-v-eq-AREA w ↦ inr (w.if-roles-v-eq-AREA.false, w.roles-is)
     ])
-
-pub returns : goal.returns
-returns c =
-    let items = c.list_at-id-items in
-    rw (take_all c.loop-id.id-index items.result.now c.loop-id-test.false, items.ensures) at c.loop-id.invariant

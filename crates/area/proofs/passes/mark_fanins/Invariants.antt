@@ -1,6 +1,5 @@
 -- `mark_fanins` meets its contract: the fanins passed that lay in the area are ends.
-use mathlib.Core.Path.{◌≡◌}
-use lib.ListN.{length, take}
+use lib.ListN.{take}
 use Rattle.area.specs.Passes.{FaninsMarked}
 use Rattle.area.proofs.passes.mark_fanins.Given as goal
 

@@ -3,11 +3,8 @@ use native.Mathlib.Omega.{arith}
 use mathlib.Core.Path.{refl}
 use Rattle.storage.proofs.Drawings.{fed_in, fed_entry}
 use Rattle.walking.proofs.Gatherings.{add_room}
-use Rattle.walking.proofs.Searches.{notes_start, notes_turn, notes_end}
+use Rattle.walking.proofs.Searches.{notes_turn, notes_end}
 use Rattle.walking.proofs.loops.note_fanins.Goals as goal
-
-pub loop-id-init : goal.loop-id-init
-loop-id-init c = notes_start _ c.requires.listing
 
 pub add-listed-requires : goal.add-listed-requires
 add-listed-requires c =
