@@ -5,7 +5,7 @@ ghost use Rattle.scanning.specs.Reading.{Joined, Negated, cleared_from};
 
 use crate::expressions::Piece;
 use spelling::MOST_TEXT;
-use storage::columns;
+use storage::fill;
 
 // Function tables: row r has bit i of r as the value of fanin i.
 const NOT: u16 = 1;
@@ -54,5 +54,5 @@ pub fn clear_from(gates: &mut [u16], made: usize)
 {
     let start = PLACES * made;
     let size = gates.len() - start;
-    columns::clear(&mut gates[start..], size);
+    fill(&mut gates[start..], size, 0);
 }

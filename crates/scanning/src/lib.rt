@@ -15,7 +15,7 @@ ghost use Rattle.scanning.specs.Scanning.{OutputsAsked, OutputsOf, EquatedOf, Sc
 use crate::equations::{Ended, Stage, read_equations};
 use crate::names::{Line, read_names};
 use spelling::{byte_at, skip_blanks};
-use storage::columns;
+use storage::fill;
 
 // The letters of `in`.
 const LETTER_I: u8 = 105;
@@ -112,8 +112,8 @@ pub fn read_text(text: &[u8], gates: &mut [u16], names: &mut [u16]) -> Scan
         Scan::Stopped(place) => {
             let all_gates = gates.len();
             let all_names = names.len();
-            columns::clear(gates, all_gates);
-            columns::clear(names, all_names);
+            fill(gates, all_gates, 0);
+            fill(names, all_names, 0);
             Scan::Stopped(place)
         }
     }

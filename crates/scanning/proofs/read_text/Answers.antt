@@ -13,9 +13,9 @@ returns-in-Stopped c =
     record {
       halts = stopped.halts;
       gates_kept =
-          emptied c.read_whole-scan.new.gates c.clear.ensures stopped.gates_size
+          emptied c.read_whole-scan.new.gates c.fill.ensures stopped.gates_size
           (λ i. c.requires.gates_empty i (omega arith));
       names_kept =
-          emptied c.read_whole-scan.new.names c.clear-in-Stopped.ensures
+          emptied c.read_whole-scan.new.names c.fill-in-Stopped.ensures
           stopped.names_size c.requires.names_empty;
     }

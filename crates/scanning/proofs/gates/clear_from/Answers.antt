@@ -5,4 +5,4 @@ use Rattle.scanning.proofs.gates.clear_from.Goals as goal
 
 pub returns : goal.returns
 returns c =
-    clear_rest c.args.gates.now (3 * c.args.made) c.clear.ensures
+    clear_rest c.args.gates.now (3 * c.args.made) c.fill.ensures
