@@ -7,7 +7,7 @@ use mathlib.Core.Path.{◌≡◌, refl, ap, sym, subst, ◌∙◌}
 use mathlib.Core.Logic.{◌⊎◌, inl, inr, ⊎_elim}
 use mathlib.Core.List.Memᴰ
 use mathlib.Core.List.{List, Memᴰ}
-use lib.ListN.{length, get_or, set, take, drop, length-set}
+use lib.ListN.{length, get_or, set, take}
 use lib.Seq.{get_or-set_same, get_or-set_other}
 use Rattle.storage.specs.Entries.{Beyond}
 use Rattle.storage.specs.Lists.{list_at}
@@ -18,11 +18,11 @@ use Rattle.area.specs.Passes.{FaninAt, FaninsMarked, EndIn, EndAt, EndsMarked}
 
 -- One fanin more
 
-pub fanins_none : (s : List ℕ) (at : ℕ) (roles : List ℕ) → FaninsMarked (take 0 (drop at s)) roles roles
-fanins_none s at roles = record { all = λ v m. absurd (Memᴰ.not-nil m); each = λ v. inr refl }
+pub fanins_none : (l roles : List ℕ) → FaninsMarked (take 0 l) roles roles
+fanins_none l roles = record { all = λ v m. absurd (Memᴰ.not-nil m); each = λ v. inr refl }
 
-module _ (s : List ℕ) (at m : ℕ) (fits : at + m ≤ length s) {before roles : List ℕ} (i : ℕ) (low : i < m)
-    (so_far : FaninsMarked (take i (drop at s)) before roles) {x : ℕ} (same : x ≡ get_or s (at + i) 0) where
+module _ (l : List ℕ) (i : ℕ) (low : i < length l) {before roles : List ℕ}
+    (so_far : FaninsMarked (take i l) before roles) {x : ℕ} (same : x ≡ get_or l i 0) where
   module _ (within : get_or roles x 0 ≡ 5) (inside : x < length roles) where
     marked_here : get_or (set roles x 6) x 0 ≡ 6
     marked_here = get_or-set_same roles x 6 0 inside
@@ -36,50 +36,50 @@ module _ (s : List ℕ) (at m : ℕ) (fits : at + m ≤ length s) {before roles 
         by_place (no apart) =
             ⊎_elim (λ (none : get_or roles v 0 ≡ 5 → ⊥). none (sym (get_or-set_other roles x v 6 0 apart) ∙ five)) apart here
 
-    fanins_mark : FaninsMarked (take (i + 1) (drop at s)) before (set roles x 6)
+    fanins_mark : FaninsMarked (take (i + 1) l) before (set roles x 6)
     fanins_mark =
         record {
           all = λ v member.
               none_stays v
-              (⊎_elim (λ (old : Memᴰ v (take i (drop at s))). inl (so_far.all v old)) (λ (new : v ≡ get_or s (at + i) 0). inr (new ∙ sym same))
-              (part_cases s at m fits i low member));
+              (⊎_elim (λ (old : Memᴰ v (take i l)). inl (so_far.all v old)) (λ (new : v ≡ get_or l i 0). inr (new ∙ sym same))
+              (part_cases l i low member));
           each = λ v. by_place v (ℕ_discrete v x) (so_far.each v);
         }
       where
         -- the fanin had not been touched, since it lies in the area still
-        was_inside : (v : ℕ) → v ≡ x → FaninAt (take i (drop at s)) before roles v →
+        was_inside : (v : ℕ) → v ≡ x → FaninAt (take i l) before roles v →
             get_or before v 0 ≡ 5
         was_inside v e (inl old) = old.1
         was_inside v e (inr kept) = sym kept ∙ ap (λ (w : ℕ). get_or roles w 0) e ∙ within
 
         by_place : (v : ℕ) → Dec (v ≡ x) →
-            FaninAt (take i (drop at s)) before roles v →
-            FaninAt (take (i + 1) (drop at s)) before (set roles x 6) v
+            FaninAt (take i l) before roles v →
+            FaninAt (take (i + 1) l) before (set roles x 6) v
         by_place v (yes e) was =
-            inl (part_new s at m fits i low (e ∙ same), was_inside v e was, ap (λ (w : ℕ). get_or (set roles x 6) w 0) e ∙ marked_here)
-        by_place v (no apart) (inl old) = inl (part_old s at m fits i low old.0, old.1, get_or-set_other roles x v 6 0 apart ∙ old.2)
+            inl (part_new l i low (e ∙ same), was_inside v e was, ap (λ (w : ℕ). get_or (set roles x 6) w 0) e ∙ marked_here)
+        by_place v (no apart) (inl old) = inl (part_old l i low old.0, old.1, get_or-set_other roles x v 6 0 apart ∙ old.2)
         by_place v (no apart) (inr kept) = inr (get_or-set_other roles x v 6 0 apart ∙ kept)
 
-  fanins_pass : (get_or roles x 0 ≡ 5 → ⊥) → FaninsMarked (take (i + 1) (drop at s)) before roles
+  fanins_pass : (get_or roles x 0 ≡ 5 → ⊥) → FaninsMarked (take (i + 1) l) before roles
   fanins_pass without =
       record {
         all = λ v member five.
-            ⊎_elim (λ (old : Memᴰ v (take i (drop at s))). so_far.all v old five)
-            (λ (new : v ≡ get_or s (at + i) 0). without (ap (λ (w : ℕ). get_or roles w 0) (same ∙ sym new) ∙ five))
-            (part_cases s at m fits i low member);
+            ⊎_elim (λ (old : Memᴰ v (take i l)). so_far.all v old five)
+            (λ (new : v ≡ get_or l i 0). without (ap (λ (w : ℕ). get_or roles w 0) (same ∙ sym new) ∙ five))
+            (part_cases l i low member);
         each = λ v.
             ⊎_elim
-            (λ (old : (Memᴰ v (take i (drop at s))) × (get_or before v 0 ≡ 5) × (get_or roles v 0 ≡ 6)).
-            inl (part_old s at m fits i low old.0, old.1, old.2))
+            (λ (old : (Memᴰ v (take i l)) × (get_or before v 0 ≡ 5) × (get_or roles v 0 ≡ 6)).
+            inl (part_old l i low old.0, old.1, old.2))
             (λ (kept : get_or roles v 0 ≡ get_or before v 0). inr kept) (so_far.each v);
       }
 
   -- a turn: the fanin is an end if it lies in the area
-  pub fanins_turn : {roles' : List ℕ} → length roles ≡ length before → x < length roles →
+  pub fanins_turn : {roles' : List ℕ} → x < length roles →
       ((get_or roles x 0 ≡ 5) × (roles' ≡ set roles x 6)) ⊎ ((get_or roles x 0 ≡ 5 → ⊥) × (roles' ≡ roles)) →
-      (length roles' ≡ length before) × FaninsMarked (take (i + 1) (drop at s)) before roles'
-  fanins_turn size inside (inl (within, stored)) = rw stored (simp length-set size, fanins_mark within inside)
-  fanins_turn size inside (inr (without, kept)) = rw kept (size, fanins_pass without)
+      FaninsMarked (take (i + 1) l) before roles'
+  fanins_turn inside (inl (within, stored)) = rw stored (fanins_mark within inside)
+  fanins_turn inside (inr (without, kept)) = rw kept (fanins_pass without)
 
 -- One gate more
 

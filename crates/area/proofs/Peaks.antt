@@ -3,11 +3,11 @@ use Prim.Native.Nat.{ℕ, max, ◌+◌, ◌<◌}
 use native.Mathlib.Omega.{arith}
 use mathlib.Core.Path.{◌≡◌, ap, sym, ◌∙◌}
 use mathlib.Core.List.{List, [], ◌∷◌, ◌++◌, map}
-use lib.ListN.{length, get_or, take, drop}
+use lib.ListN.{length, get_or, take}
 use Rattle.theory.specs.paper.Lists.{greatest}
 use Rattle.theory.specs.paper.Evidence.{peak}
 use Rattle.storage.specs.Lists.{list_at}
-use Rattle.storage.proofs.Entries.{take_more}
+use Rattle.storage.proofs.Entries.{next_taken}
 use Rattle.storage.proofs.Drawings.{fanins_in}
 use Rattle.area.specs.Area.{label_in, PeakIn}
 
@@ -17,13 +17,11 @@ greatest_more f [] x = omega arith
 greatest_more f (y ∷ l) x = let e = greatest_more f l x in omega arith
 
 -- the greatest label of one fanin more
-pub peak_more : (labels s : List ℕ) (at i : ℕ) → at + i < length s → {best : ℕ} → best ≡ greatest (map (label_in labels) (take i (drop at s))) →
-    {v label more : ℕ} → v ≡ get_or s (at + i) 0 → label ≡ get_or labels v 0 → more ≡ max best label →
-    more ≡ greatest (map (label_in labels) (take (i + 1) (drop at s)))
-peak_more labels s at i low {best} so_far {v} {label} {more} same read taken =
-    let e : get_or labels v 0 ≡ label_in labels (get_or s (at + i) 0) = ap (label_in labels) same in
-    let top = greatest_more (label_in labels) (take i (drop at s)) (get_or s (at + i) 0) in
-    omega arith ∙ sym (ap (λ (l : List ℕ). greatest (map (label_in labels) l)) (take_more s at i low))
+pub peak_more : (labels l : List ℕ) (i : ℕ) → i < length l → {best label more : ℕ} → best ≡ greatest (map (label_in labels) (take i l)) →
+    label ≡ get_or labels (get_or l i 0) 0 → more ≡ max best label → more ≡ greatest (map (label_in labels) (take (i + 1) l))
+peak_more labels l i low {best} so_far read taken =
+    let top = greatest_more (label_in labels) (take i l) (get_or l i 0) in
+    omega arith ∙ sym (ap (λ (x : List ℕ). greatest (map (label_in labels) x)) (next_taken l i low))
 
 pub peak_in : (fanins : List ℕ) (gate : ℕ) (labels : List ℕ) {p : ℕ} → p ≡ greatest (map (label_in labels) (list_at fanins gate)) →
     PeakIn fanins gate labels p

@@ -7,7 +7,7 @@ ghost use Rattle.std.specs.Prelude.{length};
 ghost use Rattle.storage.specs.Drawings.{net_in, Fed};
 ghost use Rattle.area.specs.Area.{PeakIn, AreaAsked, AreaMarked, label_in};
 
-use storage::lists::{entry_at, size_at};
+use storage::lists::list_at;
 use storage::marks::{label_of, larger};
 use storage::{Label, Node, Numbers};
 
@@ -16,12 +16,9 @@ pub fn peak(fanins: &[u16], gate: Node, labels: &[u16]) -> Label
     requires { Fed fanins.now gate.id (length labels.now) }
     ensures { PeakIn fanins.now gate.id labels.now result.depth }
 {
-    let m = size_at(fanins, gate);
     let mut best = Label { depth: 0 };
-    let mut i: usize = 0;
-    while i < m {
-        best = larger(best, label_of(labels, entry_at(fanins, gate, i)));
-        i += 1;
+    for id in list_at(fanins, gate) {
+        best = larger(best, label_of(labels, Node { id: *id }));
     }
     best
 }

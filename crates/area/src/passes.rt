@@ -5,7 +5,7 @@ ghost use Rattle.storage.specs.Roles.{met_bit};
 ghost use Rattle.storage.specs.Drawings.{Fed};
 ghost use Rattle.area.specs.Passes.{IsDeep, Becomes, SplitAsked, Split, FaninsMarked, EndsAsked, EndsMarked};
 
-use storage::lists::{entry_at, size_at};
+use storage::lists::list_at;
 use storage::marks::label_of;
 use storage::roles::{AREA, AWAY, DEEP, END, says_met};
 use storage::{Label, Node, Numbers};
@@ -31,13 +31,16 @@ pub fn split(numbers: Numbers, gate: Node, labels: &[u16], p: Label, roles: &mut
     requires { SplitAsked numbers.nodes labels.now roles.old }
     ensures { Split numbers.inputs numbers.nodes gate.id p.depth labels.now roles.old roles.new }
 {
-    let inputs = numbers.inputs;
-    let nodes = numbers.nodes;
-    let mut v: usize = 0;
-    while v < nodes {
+    for v in 0..numbers.nodes {
         let node = Node { id: v as u16 };
-        roles[v] = turned(inputs, gate, p, node, label_of(labels, node), roles[v]);
-        v += 1;
+        roles[v] = turned(
+            numbers.inputs,
+            gate,
+            p,
+            node,
+            label_of(labels, node),
+            roles[v],
+        );
     }
 }
 
@@ -46,15 +49,11 @@ fn mark_fanins(fanins: &[u16], gate: Node, roles: &mut [u8])
     requires { Fed fanins.now gate.id (length roles.old) }
     ensures { FaninsMarked (list_at fanins.now gate.id) roles.old roles.new }
 {
-    let m = size_at(fanins, gate);
-    let mut i: usize = 0;
-    while i < m {
-        let u = entry_at(fanins, gate, i);
-        let v = u.id as usize;
+    for id in list_at(fanins, gate) {
+        let v = *id as usize;
         if roles[v] == AREA {
             roles[v] = END;
         }
-        i += 1;
     }
 }
 
@@ -63,11 +62,9 @@ pub fn mark_ends(nodes: usize, fanins: &[u16], roles: &mut [u8])
     requires { EndsAsked nodes fanins.now roles.old }
     ensures { EndsMarked nodes fanins.now roles.old roles.new }
 {
-    let mut d: usize = 0;
-    while d < nodes {
+    for d in 0..nodes {
         if roles[d] == DEEP {
             mark_fanins(fanins, Node { id: d as u16 }, roles);
         }
-        d += 1;
     }
 }

@@ -5,9 +5,8 @@ ghost use Rattle.storage.specs.Lists.{Place};
 ghost use Rattle.theory.specs.paper.Values.{bit, row_of, result_at};
 ghost use Rattle.covering.specs.Cones.{ConeAsked, ConeAnswered, value_in, RowFits, GateFits, GateSettled, SweepFits, Swept, LeavesFit, LeavesSet, FirstPlace};
 
-use storage::columns::clear_words;
 use storage::lists::{PLACES, node_at, size_at};
-use storage::{CutSize, Node, Numbers};
+use storage::{CutSize, Node, Numbers, fill};
 
 // The result of a table at a row.
 fn result_at(table: u64, row: u64) -> u64
@@ -119,7 +118,7 @@ pub fn cone_table(
     ensures { ConeAnswered numbers.inputs numbers.nodes fanins.now rows.now gate.id
         leaves.now size.leaves values.old result values.new }
 {
-    clear_words(values, numbers.nodes);
+    fill(values, numbers.nodes, 0);
     let upto = place_of(order, gate) + 1;
     let all = rows_of(size);
     let at = gate.id as usize;
@@ -131,6 +130,6 @@ pub fn cone_table(
         table = with_row(table, row, values[at] % 2);
         row += 1;
     }
-    clear_words(values, numbers.nodes);
+    fill(values, numbers.nodes, 0);
     table
 }

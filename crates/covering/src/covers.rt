@@ -4,8 +4,8 @@ ghost use Rattle.theory.specs.paper.Lists.{greatest};
 ghost use Rattle.covering.specs.Covers.{CoverAsked, CoverMade, is_root, lut_count, GateMarked, GatesFit, GatesMarked, CutFits, LeavesMarked, MarksFit, DepthAsked};
 
 use storage::lists::{PLACES, node_at, size_at};
-use storage::marks::{clear, label_of, larger};
-use storage::{Label, Node, Numbers};
+use storage::marks::{label_of, larger};
+use storage::{Label, Node, Numbers, fill};
 
 // A gate is marked, an input is not.
 fn mark_gate(node: Node, inputs: usize, marks: &mut [u8])
@@ -71,7 +71,7 @@ pub fn cover(
     let inputs = numbers.inputs;
     let nodes = numbers.nodes;
     let number = numbers.roots;
-    clear(luts, nodes);
+    fill(luts, nodes, 0);
     mark_gates(outputs, 0, number, inputs, luts);
     let mut i = nodes - inputs;
     while 0 < i {

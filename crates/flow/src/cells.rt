@@ -4,7 +4,7 @@ ghost use Rattle.storage.specs.Columns.{column as columnOf};
 ghost use Rattle.flow.specs.Links.{link_to};
 ghost use Rattle.flow.specs.Cells.{CellIn, Stored, ColumnsIn, Cleared};
 
-use storage::{Node, columns};
+use storage::{Node, fill};
 
 // The columns: where paths lead, and what the search for one more found.
 pub const NEXT: usize = 0;
@@ -72,5 +72,5 @@ pub fn clear(links: &mut [u16], nodes: usize, first: usize, many: usize)
 {
     let start = first * nodes;
     let size = many * nodes;
-    columns::clear(&mut links[start..], size);
+    fill(&mut links[start..], size, 0);
 }

@@ -13,7 +13,7 @@ ghost use Rattle.flow.specs.Answer.{FlowAsked, FlowAnswer};
 use crate::cells::INS;
 use crate::reading::Start;
 use crate::rounds::Outcome;
-use storage::{CutSize, Numbers, columns};
+use storage::{CutSize, Numbers, fill};
 
 // How many columns the links have.
 const COLUMNS: usize = 5;
@@ -47,7 +47,7 @@ pub fn find(
         return Flow::Paths;
     };
     rounds::write_leaves(nodes, links, cut);
-    columns::clear(links, COLUMNS * nodes);
+    fill(links, COLUMNS * nodes, 0);
     Flow::Cut(size)
 }
 

@@ -10,8 +10,7 @@ ghost use Rattle.sheet.specs.paper.Rules.{gates};
 ghost use Rattle.judging.specs.Gates.{is_kept, lined_of, JudgeAsked, GateAsked, GatesTried, GatesJudged};
 
 use sheet::Form;
-use storage::marks::clear;
-use storage::{Node, Numbers};
+use storage::{Node, Numbers, fill};
 
 // The first rule that is not kept, with its gate.
 #[derive(Clone, Copy)]
@@ -123,6 +122,6 @@ pub fn judge_gates(
     let found = first_broken(
         form, numbers, fanins, order, labels, cuts, places, sheet, roles,
     );
-    clear(roles, numbers.nodes);
+    fill(roles, numbers.nodes, 0);
     found
 }

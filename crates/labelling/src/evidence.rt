@@ -2,7 +2,7 @@
 ghost use Rattle.labelling.specs.Evidence.{EvidenceAsked, EvidenceFound};
 
 use crate::probing::probe_gate;
-use storage::{Node, Numbers};
+use storage::{Node, Numbers, fill};
 
 // Evidence for a gate that owes it, left in the links; a second search, so that no evidence is kept from gate to gate.
 pub fn find_evidence(
@@ -25,5 +25,5 @@ pub fn find_evidence(
     probe_gate(
         numbers, fanins, order, gate, p, labels, roles, links, &mut cut,
     );
-    storage::marks::clear(roles, numbers.nodes);
+    fill(roles, numbers.nodes, 0);
 }

@@ -6,9 +6,8 @@ ghost use Rattle.packing.specs.Tables.{TableAsked, TableAnswered, TablesAsked, T
 use covering::cones::cone_table;
 use covering::covers::{cover, depth};
 use labelling::label_gates;
-use storage::columns::clear_words;
 use storage::lists::{PLACES, cut_size};
-use storage::{Label, Node, Numbers};
+use storage::{Label, Node, Numbers, fill};
 
 // How many LUTs there are, and how deep they are.
 #[derive(Clone, Copy)]
@@ -66,7 +65,7 @@ fn store_tables(
         luts.now words.old words.new }
 {
     let nodes = numbers.nodes;
-    clear_words(words, nodes);
+    fill(words, nodes, 0);
     let mut v: usize = 0;
     while v < nodes {
         let gate = Node { id: v as u16 };

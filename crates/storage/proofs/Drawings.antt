@@ -3,12 +3,13 @@ use Prim.Native.Nat.{ℕ, ◌≤◌, ◌<◌}
 use native.Mathlib.Omega.{arith}
 use mathlib.Core.Path.{◌≡◌, ap, sym, subst}
 use mathlib.Core.List.{List, [], Memᴰ}
-use lib.ListN.{length}
+use lib.ListN.{length, get_or}
 use borrow.Author.Tests.{lt-ltb, le-ltb}
 use Rattle.theory.specs.paper.Net.{Gate}
 use Rattle.theory.proofs.Walks.{fanin_node}
 use Rattle.storage.specs.Lists.{list_at}
 use Rattle.storage.specs.Drawings.{net_in, Drawn, Fed}
+use Rattle.storage.proofs.Entries.{member_at}
 use Rattle.storage.proofs.InLists.{list_size}
 
 module _ (inputs nodes : ℕ) (fanins : List ℕ) where
@@ -51,6 +52,10 @@ module _ {inputs nodes k : ℕ} {fanins : List ℕ} (drawn : Drawn inputs nodes 
         six = drawn.lists.six v low;
         known = λ u m. omega (arith, fanin_low {v = v} {u = u} low m);
       }
+
+-- what stands in the gate's list has an entry
+pub fed_entry : {fanins items : List ℕ} {v size i : ℕ} → Fed fanins v size → items ≡ list_at fanins v → i < length items → get_or items i 0 < size
+fed_entry fed is low = fed.known _ (subst (Memᴰ _) is (member_at _ _ low))
 
 pub fed_wider : {fanins : List ℕ} {v size more : ℕ} → Fed fanins v size → size ≤ more → Fed fanins v more
 fed_wider fed wide = record { long = fed.long; six = fed.six; known = λ u m. let less = fed.known u m in omega arith }

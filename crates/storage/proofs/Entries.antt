@@ -94,16 +94,18 @@ take_more s at i h =
     let inside : i < length (drop at s) = simp length-drop (omega arith) in
     rw (add-one, take-suc (drop at s) i 0, get_or-drop)
 
-module _ (s : List ℕ) (at m : ℕ) (fits : at + m ≤ length s) where
-  pub part_old : {v : ℕ} (i : ℕ) → i < m → Memᴰ v (take i (drop at s)) → Memᴰ v (take (i + 1) (drop at s))
-  part_old {v} i low m = subst (Memᴰ v) (sym (take_more s at i (omega arith))) (Memᴰ.append_left (get_or s (at + i) 0 ∷ []) m)
+module _ (l : List ℕ) (i : ℕ) (low : i < length l) where
+  pub next_taken : take (i + 1) l ≡ take i l ++ (get_or l i 0 ∷ [])
+  next_taken = rw add-one (take-suc l i 0 low)
 
-  pub part_new : {v : ℕ} (i : ℕ) → i < m → v ≡ get_or s (at + i) 0 → Memᴰ v (take (i + 1) (drop at s))
-  part_new {v} i low e =
-      subst (Memᴰ v) (sym (take_more s at i (omega arith))) (Memᴰ.append_right (take i (drop at s)) (Memᴰ.head e))
+  pub part_old : {v : ℕ} → Memᴰ v (take i l) → Memᴰ v (take (i + 1) l)
+  part_old {v} m = subst (Memᴰ v) (sym next_taken) (Memᴰ.append_left (get_or l i 0 ∷ []) m)
 
-  pub part_cases : {v : ℕ} (i : ℕ) → i < m → Memᴰ v (take (i + 1) (drop at s)) → Memᴰ v (take i (drop at s)) ⊎ (v ≡ get_or s (at + i) 0)
-  part_cases {v} i low m = member_more (subst (Memᴰ v) (take_more s at i (omega arith)) m)
+  pub part_new : {v : ℕ} → v ≡ get_or l i 0 → Memᴰ v (take (i + 1) l)
+  part_new {v} e = subst (Memᴰ v) (sym next_taken) (Memᴰ.append_right (take i l) (Memᴰ.head e))
+
+  pub part_cases : {v : ℕ} → Memᴰ v (take (i + 1) l) → Memᴰ v (take i l) ⊎ (v ≡ get_or l i 0)
+  part_cases {v} m = member_more (subst (Memᴰ v) next_taken m)
 
 -- The test of a member
 

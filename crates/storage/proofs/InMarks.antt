@@ -1,13 +1,18 @@
 -- Tests that tell whether something holds, and marks of a property: marks of one property agree, and one more mark is of a wider one.
-use Prim.Native.Nat.{ℕ, ◌<◌}
+use Prim.Native.Nat.{ℕ, ◌<◌, zero-le}
 use native.Mathlib.Decide.{ℕ_discrete}
 use mathlib.Core.Path.{◌≡◌, refl, sym, subst, ◌∙◌}
 use mathlib.Core.Bool.{Bool, true, false, true≢false, false≢true}
 use mathlib.Core.Logic.{◌⊎◌, inl, inr, ⊎_elim}
-use mathlib.Core.List.{List}
+use mathlib.Core.List.{List, Memᴰ}
+use mathlib.Core.List.Memᴰ
 use lib.ListN.{length, get_or, set}
 use lib.Seq.{get_or-set_same, get_or-set_other}
+use lib.Dec.{eqb}
+use borrow.Author.Tests.{eqb-true, eq-eqb}
+use Rattle.std.specs.List.{IsAnyAnswer}
 use Rattle.storage.specs.Marks.{Tells, Marks}
+use Rattle.storage.proofs.Entries.{member_at, place_of}
 
 -- Tests
 
@@ -25,6 +30,12 @@ tells_one true true p q = refl
 tells_one false false p q = refl
 tells_one true false p q = absurd (q.no refl (p.yes refl))
 tells_one false true p q = absurd (p.no refl (q.yes refl))
+
+-- what `contains` answers
+pub member_told : {v : ℕ} (l : List ℕ) (r : Bool) → IsAnyAnswer (λ u b. eqb u v ≡ b) l r → Tells (Memᴰ v l) r
+member_told l true (i, low, here) = tells_yes (Memᴰ.cast (sym (eqb-true _ _ (here 0))) (member_at l i low))
+member_told {v} l false none =
+    tells_no (λ m. let p = place_of m in true≢false (sym (eq-eqb _ v p.entry) ∙ none p.at 0 zero-le p.inside))
 
 -- Marks
 

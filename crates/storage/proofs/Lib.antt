@@ -1,6 +1,7 @@
 pub mod Entries
 pub mod Stores
 pub mod Clears
+pub mod Fills
 pub mod Rests
 pub mod InMarks
 pub mod Views

@@ -1,10 +1,11 @@
 // What lies in slices that a caller lends: lists of ids, marks, and numbers in columns; and the words that keep node, label and cut size apart.
 #![tactic(auto)]
 
-pub mod columns;
 pub mod lists;
 pub mod marks;
 pub mod roles;
+
+ghost use Rattle.std.specs.Prelude.{◌≡◌, ◌++◌, ◌≤◌, length, drop, replicate};
 
 // Document 01 names a label, a node cut_size and a node separately: three types, so that none can stand for another.
 #[derive(Clone, Copy)]
@@ -29,4 +30,14 @@ pub struct Numbers {
     pub inputs: usize,
     pub nodes: usize,
     pub roots: usize,
+}
+
+// The first `size` entries become `value`.
+pub fn fill<T: Copy>(entries: &mut [T], size: usize, value: T)
+    requires { size ≤ length entries.old }
+    ensures { entries.new ≡ replicate size value ++ drop size entries.old }
+{
+    for i in 0..size {
+        entries[i] = value;
+    }
 }

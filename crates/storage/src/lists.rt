@@ -1,7 +1,7 @@
 // Ids in an array: one after the other, as in an order or among leaves; or lists of up to six, seven places a node: how many, then the ids,
 // as fanins lie, and cuts.
 ghost use Rattle.std.specs.Prelude.{◌≡◌, ◌+◌, ◌*◌, ◌≤◌, ◌<◌, length, get_or, set};
-ghost use Rattle.storage.specs.Lists.{size_at, entry_at};
+ghost use Rattle.storage.specs.Lists.{size_at, entry_at, list_at};
 
 use crate::{CutSize, Node};
 
@@ -40,6 +40,16 @@ pub fn entry_at(lists: &[u16], node: Node, i: usize) -> Node
 {
     let at = PLACES * (node.id as usize) + 1 + i;
     Node { id: lists[at] }
+}
+
+// The node's list.
+pub fn list_at(lists: &[u16], node: Node) -> &[u16]
+    requires id_in_bounds { 7 * node.id + 7 ≤ length lists.now }
+    requires size_bound { size_at lists.now node.id ≤ 6 }
+    ensures { result.now ≡ list_at lists.now node.id }
+{
+    let at = PLACES * (node.id as usize) + 1;
+    &lists[at..at + size_at(lists, node)]
 }
 
 // A size that is a cut's: at most six.

@@ -1,7 +1,6 @@
 // Marks and labels: an entry a node.
-ghost use Rattle.std.specs.Prelude.{◌≡◌, ◌++◌, max, suc, ◌≤◌, ◌<◌, length, get_or, set, drop, replicate};
+ghost use Rattle.std.specs.Prelude.{◌≡◌, max, suc, ◌<◌, length, get_or, set};
 ghost use Rattle.storage.specs.Marks.{Tells};
-ghost use Rattle.storage.specs.Entries.{cleared};
 
 use crate::{Label, Node};
 
@@ -19,25 +18,6 @@ pub fn mark(marks: &mut [u8], node: Node)
 {
     let v = node.id as usize;
     marks[v] = 1;
-}
-
-// The first `size` entries become `value`.
-pub fn fill(marks: &mut [u8], size: usize, value: u8)
-    requires { size ≤ length marks.old }
-    ensures { marks.new ≡ replicate size value ++ drop size marks.old }
-{
-    let mut i = 0;
-    while i < size {
-        marks[i] = value;
-        i += 1;
-    }
-}
-
-pub fn clear(marks: &mut [u8], size: usize)
-    requires { size ≤ length marks.old }
-    ensures { marks.new ≡ cleared size marks.old }
-{
-    fill(marks, size, 0);
 }
 
 pub fn label_of(labels: &[u16], node: Node) -> Label

@@ -7,7 +7,7 @@ ghost use Rattle.storage.specs.Roles.{met_in};
 ghost use Rattle.theory.specs.paper.Lists.{Rising};
 ghost use Rattle.walking.specs.Walking.{meet_one, meet_all, Turned, TurnRoom};
 
-use storage::lists::{entry_at, node_at, size_at};
+use storage::lists::list_at;
 use storage::roles::{BOTH, MET, is_met, is_walked};
 use storage::{CutSize, Node};
 
@@ -16,15 +16,7 @@ fn is_leaf(leaves: &[u16], size: CutSize, node: Node) -> bool
     requires { size.leaves ≤ length leaves.now }
     ensures { Tells (Memᴰ node.id (take size.leaves leaves.now)) result }
 {
-    let most = size.leaves as usize;
-    let mut i = 0;
-    while i < most {
-        if leaves[i] == node.id {
-            return true;
-        }
-        i += 1;
-    }
-    false
+    leaves[..size.leaves as usize].contains(&node.id)
 }
 
 // The node is met, and walked unless it is a leaf. (A root that is a leaf stays walked.)
@@ -34,26 +26,19 @@ fn meet(node: Node, leaves: &[u16], size: CutSize, roles: &mut [u8])
     ensures { roles.new ≡ meet_one (take size.leaves leaves.now) roles.old node.id }
 {
     let v = node.id as usize;
-    if !is_leaf(leaves, size, node) {
-        roles[v] = BOTH;
-        return;
-    }
-    if is_walked(roles, node) {
-        roles[v] = BOTH;
-        return;
-    }
-    roles[v] = MET;
+    roles[v] = if is_leaf(leaves, size, node) && !is_walked(roles, node) {
+        MET
+    } else {
+        BOTH
+    };
 }
 
 fn meet_fanins(fanins: &[u16], gate: Node, leaves: &[u16], size: CutSize, roles: &mut [u8])
     requires { TurnRoom fanins.now gate.id leaves.now size.leaves roles.old }
     ensures { roles.new ≡ meet_all (take size.leaves leaves.now) roles.old (list_at fanins.now gate.id) }
 {
-    let m = size_at(fanins, gate);
-    let mut i = 0;
-    while i < m {
-        meet(entry_at(fanins, gate, i), leaves, size, roles);
-        i += 1;
+    for id in list_at(fanins, gate) {
+        meet(Node { id: *id }, leaves, size, roles);
     }
 }
 
@@ -76,15 +61,7 @@ pub fn is_rising(leaves: &[u16], size: CutSize) -> bool
     requires { size.leaves ≤ length leaves.now }
     ensures { Tells (Rising (take size.leaves leaves.now)) result }
 {
-    let most = size.leaves as usize;
-    let mut i: usize = 1;
-    while i < most {
-        if leaves[i] <= leaves[i - 1] {
-            return false;
-        }
-        i += 1;
-    }
-    true
+    leaves[..size.leaves as usize].is_sorted_by(|a, b| a < b)
 }
 
 // Is each leaf a node, and met?
@@ -93,17 +70,10 @@ pub fn leaves_met(leaves: &[u16], size: CutSize, nodes: usize, roles: &[u8]) -> 
     requires nodes_in_bounds { nodes ≤ length roles.now }
     ensures { Tells ((v : ℕ) → Memᴰ v (take size.leaves leaves.now) → (v < nodes) × (get_or (met_in roles.now) v 0 ≡ 1)) result }
 {
-    let most = size.leaves as usize;
-    let mut i = 0;
-    while i < most {
-        let leaf = node_at(leaves, i);
-        if nodes <= leaf.id as usize {
+    for id in &leaves[..size.leaves as usize] {
+        if nodes <= *id as usize || !is_met(roles, Node { id: *id }) {
             return false;
         }
-        if !is_met(roles, leaf) {
-            return false;
-        }
-        i += 1;
     }
     true
 }
@@ -114,10 +84,7 @@ fn stops(leaves: &[u16], size: CutSize, node: Node, roles: &[u8]) -> bool
     requires id_in_bounds { node.id < length roles.now }
     ensures { Tells (get_or (met_in roles.now) node.id 0 ≡ 1 → Memᴰ node.id (take size.leaves leaves.now)) result }
 {
-    if !is_met(roles, node) {
-        return true;
-    }
-    is_leaf(leaves, size, node)
+    !is_met(roles, node) || is_leaf(leaves, size, node)
 }
 
 // Is each input that is met a leaf?
@@ -127,12 +94,10 @@ pub fn inputs_stop(leaves: &[u16], size: CutSize, inputs: usize, roles: &[u8]) -
     requires inputs_bound { inputs ≤ 32767 }
     ensures { Tells ((v : ℕ) → v < inputs → get_or (met_in roles.now) v 0 ≡ 1 → Memᴰ v (take size.leaves leaves.now)) result }
 {
-    let mut v = 0;
-    while v < inputs {
+    for v in 0..inputs {
         if !stops(leaves, size, Node { id: v as u16 }, roles) {
             return false;
         }
-        v += 1;
     }
     true
 }

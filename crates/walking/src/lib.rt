@@ -13,7 +13,7 @@ ghost use Rattle.walking.specs.Promises.{OrderRoom, OrderMade, WalkRoom, WalkMad
 
 use storage::lists::node_at;
 use storage::roles::WALKED;
-use storage::{CutSize, Node, Numbers};
+use storage::{CutSize, Node, Numbers, fill};
 
 // Orders the gates by sweeps, fanins first, into the first entries of `order`; `Err` names the lowest gate that reaches itself. A drawing without a loop costs its sweeps alone:
 // one where fanins have lower ids, as many as gates in a chain that is numbered backwards. Only where gates are left over is a
@@ -32,12 +32,12 @@ pub fn order_gates(
     let gates = nodes - numbers.inputs;
     marking::start(marks, numbers.inputs, nodes);
     if sweeping::sweep_all(numbers, fanins, order, marks) == gates {
-        storage::marks::clear(marks, nodes);
+        fill(marks, nodes, 0);
         return Ok(());
     }
     let found = loops::lowest_loop(numbers, fanins, order, marks);
-    storage::columns::clear(order, gates);
-    storage::marks::clear(marks, nodes);
+    fill(order, gates, 0);
+    fill(marks, nodes, 0);
     Err(found.unwrap())
 }
 
@@ -58,12 +58,10 @@ pub fn walk(
 {
     let inputs = numbers.inputs;
     let nodes = numbers.nodes;
-    storage::marks::clear(roles, nodes);
+    fill(roles, nodes, 0);
     let start = root.id as usize;
     roles[start] = WALKED;
-    let mut i = nodes - inputs;
-    while 0 < i {
-        i -= 1;
+    for i in (0..nodes - inputs).rev() {
         cones::pass(fanins, node_at(order, i), leaves, size, roles);
     }
 }

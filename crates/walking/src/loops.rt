@@ -7,7 +7,7 @@ ghost use Rattle.walking.specs.Searching.{Searched, LowestFound};
 
 use crate::gathering::add;
 use crate::marking::start;
-use storage::lists::{entry_at, node_at, size_at};
+use storage::lists::{list_at, node_at};
 use storage::marks::is_marked;
 use storage::{Node, Numbers};
 
@@ -25,12 +25,9 @@ fn note_fanins(
     ensures { Listed numbers.inputs numbers.nodes fanins.now list.old marks.old list.new marks.new result
         (noted_all numbers.inputs (take size list.old) (list_at fanins.now gate.id)) }
 {
-    let m = size_at(fanins, gate);
     let mut listed = size;
-    let mut i = 0;
-    while i < m {
-        listed = add(list, marks, listed, entry_at(fanins, gate, i));
-        i += 1;
+    for id in list_at(fanins, gate) {
+        listed = add(list, marks, listed, Node { id: *id });
     }
     listed
 }
@@ -71,14 +68,11 @@ pub fn lowest_loop(
     ensures { LowestFound numbers.inputs numbers.nodes fanins.now list.old marks.old result
         list.new marks.new }
 {
-    let nodes = numbers.nodes;
-    let mut v = numbers.inputs;
-    while v < nodes {
+    for v in numbers.inputs..numbers.nodes {
         let gate = Node { id: v as u16 };
         if reaches_itself(numbers, fanins, list, marks, gate) {
             return Some(gate);
         }
-        v += 1;
     }
     None
 }

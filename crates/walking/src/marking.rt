@@ -2,7 +2,7 @@
 ghost use Rattle.std.specs.Prelude.{◌≡◌, ◌++◌, ◌≤◌, length, drop, replicate};
 ghost use Rattle.storage.specs.Entries.{cleared};
 
-use storage::marks::{clear, fill};
+use storage::fill;
 
 // Marks the inputs, and no gate.
 pub fn start(marks: &mut [u8], inputs: usize, nodes: usize)
@@ -10,6 +10,6 @@ pub fn start(marks: &mut [u8], inputs: usize, nodes: usize)
     requires nodes_in_bounds { nodes ≤ length marks.old }
     ensures { marks.new ≡ replicate inputs 1 ++ drop inputs (cleared nodes marks.old) }
 {
-    clear(marks, nodes);
+    fill(marks, nodes, 0);
     fill(marks, inputs, 1);
 }

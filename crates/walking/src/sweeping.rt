@@ -7,7 +7,7 @@ ghost use Rattle.walking.specs.Gathering.{AllMarked, AddRoom, Added, Listing, Li
 ghost use Rattle.walking.specs.Sweeps.{swept, order_of};
 
 use crate::gathering::add;
-use storage::lists::{entry_at, size_at};
+use storage::lists::list_at;
 use storage::marks::is_marked;
 use storage::{Node, Numbers};
 
@@ -16,13 +16,10 @@ fn is_ready(fanins: &[u16], gate: Node, marks: &[u8]) -> bool
     requires { Fed fanins.now gate.id (length marks.now) }
     ensures { Tells (AllMarked (list_at fanins.now gate.id) marks.now) result }
 {
-    let m = size_at(fanins, gate);
-    let mut i = 0;
-    while i < m {
-        if !is_marked(marks, entry_at(fanins, gate, i)) {
+    for id in list_at(fanins, gate) {
+        if !is_marked(marks, Node { id: *id }) {
             return false;
         }
-        i += 1;
     }
     true
 }
@@ -55,12 +52,9 @@ fn sweep(
     ensures { Listed numbers.inputs numbers.nodes fanins.now order.old marks.old order.new marks.new result
         (swept (net_in numbers.inputs numbers.nodes fanins.now) (take size order.old)) }
 {
-    let nodes = numbers.nodes;
     let mut placed = size;
-    let mut v = numbers.inputs;
-    while v < nodes {
+    for v in numbers.inputs..numbers.nodes {
         placed = place(fanins, order, marks, placed, Node { id: v as u16 });
-        v += 1;
     }
     placed
 }

@@ -4,10 +4,8 @@ ghost use Rattle.storage.specs.Marks.{Tells};
 ghost use Rattle.weighing.specs.PassThree.{LutsAsked, LutsAnswered, FirstJudged, NodeAsked, NodeJudged, CutAsked, CutTold, FunctionAsked, FunctionTold};
 
 use covering::cones::cone_table;
-use storage::columns::clear_words;
 use storage::lists::{PLACES, cut_size};
-use storage::marks::clear;
-use storage::{Node, Numbers};
+use storage::{Node, Numbers, fill};
 use walking::is_cut;
 
 // All LUTs keep 25 and 29, or the first that does not, by its root.
@@ -180,7 +178,7 @@ pub fn judge_luts(
     let found = judge_nodes(
         numbers, fanins, rows, order, luts, cuts, tables, roles, values,
     );
-    clear(roles, nodes);
-    clear_words(values, nodes);
+    fill(roles, nodes, 0);
+    fill(values, nodes, 0);
     found
 }

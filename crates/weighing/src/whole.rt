@@ -7,7 +7,7 @@ ghost use Rattle.weighing.specs.PassFour.{DepthFits, DepthSet, DepthsAsked, Dept
 use covering::covers::{depth, mark_gates};
 use storage::lists::{PLACES, node_at, size_at};
 use storage::marks::{above, put_label};
-use storage::{Label, Node, Numbers};
+use storage::{Label, Node, Numbers, fill};
 
 // The whole keeps 28 and 30; or the lowest gate that breaks 28; or 30 is broken.
 #[derive(Clone, Copy)]
@@ -39,7 +39,7 @@ fn mark_wanted(numbers: Numbers, luts: &[u8], cuts: &[u16], outputs: &[u16], wan
     let inputs = numbers.inputs;
     let nodes = numbers.nodes;
     let number = numbers.roots;
-    storage::marks::clear(wanted, nodes);
+    fill(wanted, nodes, 0);
     mark_gates(outputs, 0, number, inputs, wanted);
     let mut v = inputs;
     while v < nodes {
@@ -79,7 +79,7 @@ fn judge_wanted(
 {
     mark_wanted(numbers, luts, cuts, outputs, wanted);
     let found = first_uncovered(numbers, luts, wanted);
-    storage::marks::clear(wanted, numbers.nodes);
+    fill(wanted, numbers.nodes, 0);
     found
 }
 
@@ -128,7 +128,7 @@ fn cover_depth(
 {
     find_depths(numbers, order, luts, cuts, depths);
     let reached = depth(depths, outputs, numbers.roots);
-    storage::columns::clear(depths, numbers.nodes);
+    fill(depths, numbers.nodes, 0);
     reached
 }
 
@@ -160,7 +160,7 @@ pub fn judge_whole(
         (take numbers.roots outputs.now) labels.now head.depth wanted.old depths.old result
         wanted.new depths.new }
 {
-    storage::columns::clear(depths, numbers.nodes);
+    fill(depths, numbers.nodes, 0);
     let found = judge_wanted(numbers, luts, cuts, outputs, wanted);
     if !is_kept(found) {
         return found;

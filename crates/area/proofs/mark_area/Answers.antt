@@ -1,10 +1,6 @@
 -- `mark_area` meets its contract: the passes together mark D, the area and its ends.
-use Rattle.area.proofs.Whole.{split_asked, ends_asked, whole_area}
+use Rattle.area.proofs.Whole.{ends_asked, whole_area}
 use Rattle.area.proofs.mark_area.Goals as goal
-
-pub split-requires : goal.split-requires
-split-requires c =
-    split_asked c.requires
 
 pub mark_ends-requires : goal.mark_ends-requires
 mark_ends-requires c =

@@ -52,12 +52,12 @@ pub overflow_mul-nodes : goal.overflow_mul-nodes
 overflow_mul-nodes c =
     omega (arith, c.requires.drawing.small)
 
-pub clear-requires-2 : goal.clear-requires-2
-clear-requires-2 c =
+pub fill-requires : goal.fill-requires
+fill-requires c =
     omega (arith, c.requires.links_long, c.run-outcome.ensures.beyond.size)
 
 pub returns : goal.returns
 returns c =
     let full = ran_full c.run-outcome.ensures.ran c.in-Full.is in
-    answer_cut c.requires c.run-outcome.ensures.beyond full c.clear-2.ensures
+    answer_cut c.requires c.run-outcome.ensures.beyond full c.fill.ensures
     c.write_leaves.ensures

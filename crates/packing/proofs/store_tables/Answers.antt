@@ -4,15 +4,15 @@ use Rattle.packing.proofs.TablesStored.{tables_none, words_room, table_asked, ta
 use Rattle.packing.proofs.TablesStored.{tables_all}
 use Rattle.packing.proofs.store_tables.Goals as goal
 
-pub clear_words-requires : goal.clear_words-requires
-clear_words-requires c =
+pub fill-requires : goal.fill-requires
+fill-requires c =
     let pre = c.requires in
     omega (arith, pre.words_long)
 
 pub loop-v-init : goal.loop-v-init
 loop-v-init c =
     let pre = c.requires in
-    tables_none pre c.clear_words.ensures
+    tables_none pre c.fill.ensures
 
 pub overflow_cast-gate : goal.overflow_cast-gate
 overflow_cast-gate c =
@@ -23,7 +23,7 @@ pub table_of-table-requires : goal.table_of-table-requires
 table_of-table-requires c =
     let loop = c.loop-v in
     let pre = c.requires in
-    table_asked pre c.clear_words.ensures loop.invariant c.loop-v-test.true
+    table_asked pre c.fill.ensures loop.invariant c.loop-v-test.true
 
 pub overflow_add-at : goal.overflow_add-at
 overflow_add-at c =
@@ -36,7 +36,7 @@ offset_bounds-words-at c =
     let loop-test = c.loop-v-test in
     let loop = c.loop-v in
     let pre = c.requires in
-    let room = words_room pre c.clear_words.ensures loop.invariant in
+    let room = words_room pre c.fill.ensures loop.invariant in
     omega (arith, loop-test.true, pre.arrays.drawing.small)
 
 pub bounds-words-at : goal.bounds-words-at
@@ -44,7 +44,7 @@ bounds-words-at c =
     let loop-test = c.loop-v-test in
     let loop = c.loop-v in
     let pre = c.requires in
-    let room = words_room pre c.clear_words.ensures loop.invariant in
+    let room = words_room pre c.fill.ensures loop.invariant in
     rw c.table_of-table.ensures.kept (omega (arith, loop-test.true))
 
 pub overflow_add-v : goal.overflow_add-v
@@ -63,14 +63,14 @@ loop-v-preserved c =
     let loop-test = c.loop-v-test in
     let loop = c.loop-v in
     let pre = c.requires in
-    tables_turn pre c.clear_words.ensures loop.invariant loop-test.true c.table_of-table.ensures
+    tables_turn pre c.fill.ensures loop.invariant loop-test.true c.table_of-table.ensures
 
 pub shape_of-words : goal.shape_of-words
 shape_of-words c =
     let pre = c.requires in
-    (tables_all pre c.clear_words.ensures c.loop-v.invariant c.loop-v-test.false).rest.size
+    (tables_all pre c.fill.ensures c.loop-v.invariant c.loop-v-test.false).rest.size
 
 pub returns : goal.returns
 returns c =
     let pre = c.requires in
-    tables_all pre c.clear_words.ensures c.loop-v.invariant c.loop-v-test.false
+    tables_all pre c.fill.ensures c.loop-v.invariant c.loop-v-test.false

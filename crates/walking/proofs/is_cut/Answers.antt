@@ -2,23 +2,8 @@
 use native.Mathlib.Omega.{arith}
 use Rattle.storage.proofs.Drawings.{drawn_span}
 use Rattle.storage.proofs.InMarks.{tells_no}
-use Rattle.walking.proofs.WalkLoops.{cut_some, cut_met, cut_stops, cut_whole}
+use Rattle.walking.proofs.WalkLoops.{cut_met, cut_stops, cut_whole}
 use Rattle.walking.proofs.is_cut.Goals as goal
-
-pub returns-then-size-eq0 : goal.returns-then-size-eq0
-returns-then-size-eq0 c =
-    let made = c.walk.ensures in
-    record { reply = tells_no (λ cut. omega (arith, cut_some c.requires made cut, c.if-size-eq0.true)); walk = made }
-
-pub returns-then-size-numbers : goal.returns-then-size-numbers
-returns-then-size-numbers c =
-    let made = c.walk.ensures in
-    record { reply = tells_no (λ cut. omega (arith, cut_some c.requires made cut, c.if-size-numbers.true)); walk = made }
-
-pub returns-then-not-is_rising : goal.returns-then-not-is_rising
-returns-then-not-is_rising c =
-    let falls = c.is_rising.ensures.no c.if-not-is_rising.true in
-    record { reply = tells_no (λ cut. falls cut.rising); walk = c.walk.ensures }
 
 pub returns-then-not-leaves_met : goal.returns-then-not-leaves_met
 returns-then-not-leaves_met c =

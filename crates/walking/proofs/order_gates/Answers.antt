@@ -19,7 +19,7 @@ sweep_all-requires c =
 pub returns-then-sweep_all-gates : goal.returns-then-sweep_all-gates
 returns-then-sweep_all-gates c =
     made_whole c.requires c.start.ensures c.sweep_all.ensures c.if-sweep_all-gates.true
-    c.clear.ensures
+    c.fill.ensures
 
 pub unwrap-requires : goal.unwrap-requires
 unwrap-requires c =
@@ -28,4 +28,4 @@ unwrap-requires c =
 pub returns : goal.returns
 returns c =
     made_loop c.requires c.start.ensures c.sweep_all.ensures c.lowest_loop-found.ensures c.unwrap.ensures
-    c.clear-2.ensures c.clear-3.ensures
+    c.fill-2.ensures c.fill-3.ensures

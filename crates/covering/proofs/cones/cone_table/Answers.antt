@@ -9,8 +9,8 @@ use Rattle.covering.proofs.ConeRows.{leaves_fit, rows_few, gate_stands, sweep_fi
 use Rattle.covering.proofs.ConeRows.{table_fits_rows, rows_none, rows_more, rows_all}
 use Rattle.covering.proofs.cones.cone_table.Goals as goal
 
-pub clear_words-requires : goal.clear_words-requires
-clear_words-requires c =
+pub fill-requires : goal.fill-requires
+fill-requires c =
     let pre = c.requires in
     pre.values_long
 
@@ -33,14 +33,14 @@ pub loop-row-init : goal.loop-row-init
 loop-row-init c =
     let args = c.args in
     let pre = c.requires in
-    rows_none pre args.values.now pre.values_long c.clear_words.ensures
+    rows_none pre args.values.now pre.values_long c.fill.ensures
 
 pub set_leaves-requires : goal.set_leaves-requires
 set_leaves-requires c =
     let loop = c.loop-row in
     let a = c.args in
     let p = c.requires in
-    let same = ap length c.clear_words.ensures ∙ cleared_size a.numbers.nodes a.values.now p.values_long in
+    let same = ap length c.fill.ensures ∙ cleared_size a.numbers.nodes a.values.now p.values_long in
     rw (loop.invariant.rest.size, same) (leaves_fit p)
 
 pub sweep-requires : goal.sweep-requires
@@ -48,7 +48,7 @@ sweep-requires c =
     let loop = c.loop-row in
     let a = c.args in
     let p = c.requires in
-    let same = ap length c.clear_words.ensures ∙ cleared_size a.numbers.nodes a.values.now p.values_long in
+    let same = ap length c.fill.ensures ∙ cleared_size a.numbers.nodes a.values.now p.values_long in
     rw (c.set_leaves.ensures.long, loop.invariant.rest.size, same)
     (sweep_fits p (c.place_of-upto.result + 1) (upto_gates p c.place_of-upto.result c.place_of-upto.ensures))
 
@@ -65,7 +65,7 @@ bounds-values-at c =
     let a = c.args in
     let p = c.requires in
     let low = gate_below a.numbers.inputs a.numbers.nodes a.fanins.now p.gate in
-    let same = ap length c.clear_words.ensures ∙ cleared_size a.numbers.nodes a.values.now p.values_long in
+    let same = ap length c.fill.ensures ∙ cleared_size a.numbers.nodes a.values.now p.values_long in
     rw (c.sweep.ensures.long, c.set_leaves.ensures.long, loop.invariant.rest.size, same) (omega (arith, p.values_long))
 
 pub with_row-table-requires : goal.with_row-table-requires
@@ -89,12 +89,12 @@ loop-row-preserved c =
     rows_more pre loop.invariant c.place_of-upto.result c.place_of-upto.ensures (omega (arith, loop-test.true, c.rows_of-all.ensures))
     c.set_leaves.ensures c.sweep.ensures c.with_row-table.ensures
 
-pub clear_words-requires-2 : goal.clear_words-requires-2
-clear_words-requires-2 c =
+pub fill-requires-2 : goal.fill-requires-2
+fill-requires-2 c =
     let loop = c.loop-row in
     let a = c.args in
     let p = c.requires in
-    let same = ap length c.clear_words.ensures ∙ cleared_size a.numbers.nodes a.values.now p.values_long in
+    let same = ap length c.fill.ensures ∙ cleared_size a.numbers.nodes a.values.now p.values_long in
     rw (loop.invariant.rest.size, same) p.values_long
 
 pub shape_of-values : goal.shape_of-values
@@ -102,8 +102,8 @@ shape_of-values c =
     let loop = c.loop-row in
     let a = c.args in
     let p = c.requires in
-    let same = ap length c.clear_words.ensures ∙ cleared_size a.numbers.nodes a.values.now p.values_long in
-    let last = ap length c.clear_words-2.ensures
+    let same = ap length c.fill.ensures ∙ cleared_size a.numbers.nodes a.values.now p.values_long in
+    let last = ap length c.fill-2.ensures
     ∙ cleared_size a.numbers.nodes loop.values (rw (loop.invariant.rest.size, same) p.values_long) in
     last ∙ loop.invariant.rest.size ∙ same
 
@@ -114,4 +114,4 @@ returns c =
     let p = c.requires in
     let l = c.loop-row in
     rows_all p l.invariant (omega (arith, loop-test.false, c.rows_of-all.ensures, l.invariant.passed)) a.values.now
-    p.values_long c.clear_words.ensures c.clear_words-2.ensures
+    p.values_long c.fill.ensures c.fill-2.ensures

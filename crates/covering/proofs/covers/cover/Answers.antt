@@ -9,8 +9,8 @@ use Rattle.covering.proofs.Backing.{outputs_fit, cut_fits, backed_first, backed_
 use Rattle.covering.proofs.Backing.{cover_made}
 use Rattle.covering.proofs.covers.cover.Goals as goal
 
-pub clear-requires : goal.clear-requires
-clear-requires c =
+pub fill-requires : goal.fill-requires
+fill-requires c =
     let pre = c.requires in
     pre.luts_long
 
@@ -18,7 +18,7 @@ pub mark_gates-requires : goal.mark_gates-requires
 mark_gates-requires c =
     let a = c.args in
     let p = c.requires in
-    let same = ap length c.clear.ensures ∙ cleared_size a.numbers.nodes a.luts.now p.luts_long in
+    let same = ap length c.fill.ensures ∙ cleared_size a.numbers.nodes a.luts.now p.luts_long in
     rw same (outputs_fit p)
 
 pub overflow_sub-i : goal.overflow_sub-i
@@ -30,7 +30,7 @@ pub loop-i-init : goal.loop-i-init
 loop-i-init c =
     let args = c.args in
     let pre = c.requires in
-    backed_first pre args.luts.now refl c.clear.ensures c.mark_gates.ensures
+    backed_first pre args.luts.now refl c.fill.ensures c.mark_gates.ensures
 
 pub node_at-requires : goal.node_at-requires
 node_at-requires c =
@@ -43,7 +43,7 @@ mark_leaves-requires c =
     let a = c.args in
     let p = c.requires in
     let l = c.loop-i in
-    let same = ap length c.clear.ensures ∙ cleared_size a.numbers.nodes a.luts.now p.luts_long in
+    let same = ap length c.fill.ensures ∙ cleared_size a.numbers.nodes a.luts.now p.luts_long in
     rw (c.node_at.ensures, l.invariant.rest.size, c.mark_gates.ensures.long, same)
     (cut_fits p (l.i - 1) (omega (arith, l.invariant.passed)))
 
@@ -61,7 +61,7 @@ count_marks-requires c =
     let p = c.requires in
     let l = c.loop-i in
     let none : l.i ≡ 0 = omega arith in
-    let same = ap length c.clear.ensures ∙ cleared_size a.numbers.nodes a.luts.now p.luts_long in
+    let same = ap length c.fill.ensures ∙ cleared_size a.numbers.nodes a.luts.now p.luts_long in
     marks_fit p (rw none at l.invariant) (c.mark_gates.ensures.long ∙ same)
 
 pub shape_of-luts : goal.shape_of-luts
@@ -69,7 +69,7 @@ shape_of-luts c =
     let loop = c.loop-i in
     let a = c.args in
     let pre = c.requires in
-    let same = ap length c.clear.ensures ∙ cleared_size a.numbers.nodes a.luts.now pre.luts_long in
+    let same = ap length c.fill.ensures ∙ cleared_size a.numbers.nodes a.luts.now pre.luts_long in
     loop.invariant.rest.size ∙ c.mark_gates.ensures.long ∙ same
 
 pub returns : goal.returns
@@ -78,5 +78,5 @@ returns c =
     let pre = c.requires in
     let l = c.loop-i in
     let none : l.i ≡ 0 = omega arith in
-    cover_made pre (rw none at l.invariant) args.luts.now refl c.clear.ensures c.mark_gates.ensures
+    cover_made pre (rw none at l.invariant) args.luts.now refl c.fill.ensures c.mark_gates.ensures
     c.count_marks.ensures

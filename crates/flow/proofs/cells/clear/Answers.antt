@@ -14,14 +14,14 @@ overflow_mul-size c = omega (arith, columns_fit c.requires)
 pub offset_bounds-links-start : goal.offset_bounds-links-start
 offset_bounds-links-start c = omega (arith, columns_fit c.requires)
 
-pub slice_bounds-clear-count : goal.slice_bounds-clear-count
-slice_bounds-clear-count c = omega (arith, columns_fit c.requires)
+pub slice_bounds-fill-count : goal.slice_bounds-fill-count
+slice_bounds-fill-count c = omega (arith, columns_fit c.requires)
 
-pub clear-requires : goal.clear-requires
-clear-requires c =
+pub fill-requires : goal.fill-requires
+fill-requires c =
     let a = c.args in
     omega (arith, columns_fit c.requires, length-drop (a.first * a.nodes) a.links.now)
 
 pub returns : goal.returns
 returns c =
-    clear_columns c.requires c.clear.ensures
+    clear_columns c.requires c.fill.ensures

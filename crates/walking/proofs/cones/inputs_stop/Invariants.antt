@@ -1,5 +1,5 @@
 -- `inputs_stop` meets its contract: each input passed is a leaf if it is met.
-use Prim.Native.Nat.{ℕ, ◌≤◌, ◌<◌, ◌-◌}
+use Prim.Native.Nat.{ℕ, ◌≤◌, ◌<◌}
 use mathlib.Core.Path.{◌≡◌}
 use mathlib.Core.List.{Memᴰ}
 use lib.ListN.{get_or, take}
@@ -8,6 +8,3 @@ use Rattle.walking.proofs.cones.inputs_stop.Given as goal
 
 abbrev pub invariant-loop-v : goal.invariant-loop-v
 invariant-loop-v l = (l.v ≤ l.inputs) × ((u : ℕ) → u < l.v → get_or (met_in l.roles) u 0 ≡ 1 → Memᴰ u (take l.size.leaves l.leaves))
-
-abbrev pub decreases-loop-v : goal.decreases-loop-v
-decreases-loop-v l = l.inputs - l.v

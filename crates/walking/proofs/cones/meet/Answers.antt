@@ -2,23 +2,24 @@
 use lib.ListN.{take}
 use Rattle.walking.proofs.WalkRoles.{leaf_met, leaf_both, open_both}
 use Rattle.walking.proofs.cones.meet.Goals as goal
-
-pub returns-then-not-is_leaf : goal.returns-then-not-is_leaf
-returns-then-not-is_leaf c =
-    let a = c.args in
-    open_both (take a.size.leaves a.leaves.now) a.roles.now a.node.id
-    (c.is_leaf.ensures.no c.if-not-is_leaf.true)
-
-pub returns-then-is_walked : goal.returns-then-is_walked
-returns-then-is_walked c =
-    let a = c.args in
-    leaf_both (take a.size.leaves a.leaves.now) a.roles.now a.node.id
-    (c.is_leaf.ensures.yes c.if-not-is_leaf.false)
-    (c.is_walked.ensures.yes c.if-is_walked.true)
+use Rattle.walking.proofs.cones.meet.Goals.{then-is_leaf+then-not-is_walked, else-is_leaf, else-is_leaf-via-then-is_leaf+else-not-is_walked, else-is_leaf-via-else-is_leaf}
 
 pub returns : goal.returns
 returns c =
     let a = c.args in
-    leaf_met (take a.size.leaves a.leaves.now) a.roles.now a.node.id
-    (c.is_leaf.ensures.yes c.if-not-is_leaf.false)
-    (c.is_walked.ensures.no c.if-is_walked.false)
+    let leaves = take a.size.leaves a.leaves.now in
+    elim c.if-is_leaf.branch [
+      | then-is_leaf+then-not-is_walked w ↦
+          rw w.roles-is
+          (leaf_met leaves a.roles.now a.node.id (c.is_leaf.ensures.yes w.if-is_leaf.true)
+          (w.is_walked.ensures.no w.if-not-is_walked.true))
+      | else-is_leaf w ↦
+          elim w.else-is_leaf.branch [
+            | else-is_leaf-via-then-is_leaf+else-not-is_walked w' ↦
+                rw w.roles-is
+                (leaf_both leaves a.roles.now a.node.id (c.is_leaf.ensures.yes w'.if-is_leaf.true)
+                (w'.is_walked.ensures.yes w'.if-not-is_walked.false))
+            | else-is_leaf-via-else-is_leaf w' ↦
+                rw w.roles-is (open_both leaves a.roles.now a.node.id (c.is_leaf.ensures.no w'.if-is_leaf.false))
+          ]
+    ]

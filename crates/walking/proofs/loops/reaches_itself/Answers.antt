@@ -1,14 +1,8 @@
 -- `reaches_itself` meets its contract: what is listed lies behind the gate, and what was passed has its fanins listed.
-use native.Mathlib.Omega.{arith}
-use Rattle.storage.proofs.Drawings.{drawn_span}
 use Rattle.walking.proofs.Fills.{start_listing, kept_started}
 use Rattle.walking.proofs.Gatherings.{kept_same, kept_on}
 use Rattle.walking.proofs.Searches.{search_start, search_turn, search_tells, next_gate}
 use Rattle.walking.proofs.loops.reaches_itself.Goals as goal
-
-pub start-requires : goal.start-requires
-start-requires c =
-    record { inputs_le_nodes = drawn_span c.requires.order_room.drawn; nodes_in_bounds = c.requires.order_room.marks_long }
 
 pub note_fanins-size-requires : goal.note_fanins-size-requires
 note_fanins-size-requires c =
@@ -18,10 +12,6 @@ pub loop-done-init : goal.loop-done-init
 loop-done-init c =
     (search_start c.args.gate.id c.requires.id_lt_nodes c.note_fanins-size.ensures, kept_same)
 
-pub node_at-next-requires : goal.node_at-next-requires
-node_at-next-requires c =
-    omega (arith, c.loop-done.invariant.0.listing.few, c.loop-done.invariant.0.listing.list_long)
-
 pub note_fanins-size-requires-in-loop-done : goal.note_fanins-size-requires-in-loop-done
 note_fanins-size-requires-in-loop-done c =
     let left = c.loop-done.invariant.0 in record {
@@ -29,14 +19,6 @@ note_fanins-size-requires-in-loop-done c =
       id_lt_nodes = rw c.node_at-next.ensures
           (next_gate c.args.gate.id c.requires.id_lt_nodes left c.loop-done-test.true).1;
     }
-
-pub overflow_add-done : goal.overflow_add-done
-overflow_add-done c =
-    omega (arith, c.loop-done.invariant.0.listing.few, c.loop-done.invariant.0.listing.small, c.loop-done-test.true)
-
-pub loop-done-smaller : goal.loop-done-smaller
-loop-done-smaller c =
-    omega (arith, c.loop-done.invariant.0.listing.few, c.loop-done-test.true)
 
 pub loop-done-preserved : goal.loop-done-preserved
 loop-done-preserved c =
@@ -46,20 +28,6 @@ loop-done-preserved c =
           c.node_at-next.ensures noted,
       kept_on left.1 noted.kept,
     )
-
-pub is_marked-requires : goal.is_marked-requires
-is_marked-requires c =
-    omega (arith, c.requires.id_lt_nodes, c.loop-done.invariant.0.listing.marks_long)
-
-pub shape_of-list : goal.shape_of-list
-shape_of-list c =
-    let started = kept_started c.requires.order_room c.start.ensures in
-    (kept_on started (kept_on c.note_fanins-size.ensures.kept c.loop-done.invariant.1)).list_rest.size
-
-pub shape_of-marks : goal.shape_of-marks
-shape_of-marks c =
-    let started = kept_started c.requires.order_room c.start.ensures in
-    (kept_on started (kept_on c.note_fanins-size.ensures.kept c.loop-done.invariant.1)).marks_rest.size
 
 pub returns : goal.returns
 returns c =

@@ -1,12 +1,8 @@
 -- `is_ready` meets its contract: each fanin passed is marked.
-use Prim.Native.Nat.{ℕ, ◌≤◌, ◌<◌, ◌-◌}
+use Prim.Native.Nat.{ℕ, ◌<◌}
 use mathlib.Core.Path.{◌≡◌}
 use lib.ListN.{get_or}
-use Rattle.storage.specs.Lists.{entry_at}
 use Rattle.walking.proofs.sweeping.is_ready.Given as goal
 
-abbrev pub invariant-loop-i : goal.invariant-loop-i
-invariant-loop-i l = (l.i ≤ l.m) × ((j : ℕ) → j < l.i → get_or l.marks (entry_at l.fanins l.gate.id j) 0 ≡ 1)
-
-abbrev pub decreases-loop-i : goal.decreases-loop-i
-decreases-loop-i l = l.m - l.i
+abbrev pub invariant-loop-id : goal.invariant-loop-id
+invariant-loop-id l = (j : ℕ) → j < l.id-index → get_or l.marks (get_or l.id-items j 0) 0 ≡ 1

@@ -10,10 +10,6 @@ pub loop-v-init : goal.loop-v-init
 loop-v-init c =
     sweep_start c.requires
 
-pub overflow_cast-v : goal.overflow_cast-v
-overflow_cast-v c =
-    omega (arith, c.requires.small)
-
 pub place-placed-requires : goal.place-placed-requires
 place-placed-requires c =
     let l = c.loop-v.invariant.listed.listing in record { fed = fed_in l.drawn c.loop-v.v (omega arith) (length c.loop-v.marks) l.marks_long; add_room = add_room l c.loop-v.v (omega arith) }
@@ -21,12 +17,6 @@ place-placed-requires c =
 pub loop-v-preserved : goal.loop-v-preserved
 loop-v-preserved c =
     sweep_turn c.loop-v.invariant (omega arith) c.place-placed.ensures
-
-pub shape_of-order : goal.shape_of-order
-shape_of-order c = c.loop-v.invariant.listed.kept.list_rest.size
-
-pub shape_of-marks : goal.shape_of-marks
-shape_of-marks c = c.loop-v.invariant.listed.kept.marks_rest.size
 
 pub returns : goal.returns
 returns c = sweep_end c.loop-v.invariant (omega arith)

@@ -4,4 +4,4 @@ use Rattle.weighing.proofs.luts.judge_luts.Goals as goal
 
 pub returns : goal.returns
 returns c =
-    luts_answered c.judge_nodes-found.ensures c.clear.ensures c.clear_words.ensures
+    luts_answered c.judge_nodes-found.ensures c.fill.ensures c.fill-2.ensures

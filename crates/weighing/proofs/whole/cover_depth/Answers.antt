@@ -10,4 +10,4 @@ depth-reached-requires c =
 pub returns : goal.returns
 returns c =
     let pre = c.requires in
-    deep_told pre c.find_depths.ensures c.depth-reached.ensures c.clear.ensures
+    deep_told pre c.find_depths.ensures c.depth-reached.ensures c.fill.ensures

@@ -10,17 +10,17 @@ judge_wanted-found-requires c =
 
 pub returns-then-not-is_kept : goal.returns-then-not-is_kept
 returns-then-not-is_kept c =
-    whole_cover c.requires c.clear.ensures c.judge_wanted-found.ensures
+    whole_cover c.requires c.fill.ensures c.judge_wanted-found.ensures
     c.args.head.depth (c.is_kept.ensures.no c.if-not-is_kept.true)
 
 pub cover_depth-reached-requires : goal.cover_depth-reached-requires
 cover_depth-reached-requires c =
-    deep_asked c.requires c.clear.ensures c.judge_wanted-found.ensures
+    deep_asked c.requires c.fill.ensures c.judge_wanted-found.ensures
     (c.is_kept.ensures.yes c.if-not-is_kept.false)
 
 pub returns-then-reached-head : goal.returns-then-reached-head
 returns-then-reached-head c =
-    whole_not_reached c.requires c.clear.ensures c.judge_wanted-found.ensures
+    whole_not_reached c.requires c.fill.ensures c.judge_wanted-found.ensures
     (c.is_kept.ensures.yes c.if-not-is_kept.false)
     c.cover_depth-reached.ensures c.args.head.depth c.if-reached-head.true
 
@@ -30,14 +30,14 @@ depth-labelled-requires c =
 
 pub returns-then-labelled-head : goal.returns-then-labelled-head
 returns-then-labelled-head c =
-    whole_not_labelled c.requires c.clear.ensures c.judge_wanted-found.ensures
+    whole_not_labelled c.requires c.fill.ensures c.judge_wanted-found.ensures
     (c.is_kept.ensures.yes c.if-not-is_kept.false)
     c.cover_depth-reached.ensures c.args.head.depth c.depth-labelled.ensures
     (λ e. omega (arith, e, c.if-labelled-head.true, c.if-reached-head.false))
 
 pub returns : goal.returns
 returns c =
-    whole_kept c.requires c.clear.ensures c.judge_wanted-found.ensures
+    whole_kept c.requires c.fill.ensures c.judge_wanted-found.ensures
     (c.is_kept.ensures.yes c.if-not-is_kept.false)
     c.cover_depth-reached.ensures c.args.head.depth c.depth-labelled.ensures
     c.if-reached-head.false (omega (arith, c.if-labelled-head.false))

@@ -6,8 +6,8 @@ use Rattle.storage.proofs.Clears.{cleared_size}
 use Rattle.weighing.proofs.Wanted.{outputs_fit, wanted_begin, leaves_fit, wanted_more, wanted_all}
 use Rattle.weighing.proofs.whole.mark_wanted.Goals as goal
 
-pub clear-requires : goal.clear-requires
-clear-requires c =
+pub fill-requires : goal.fill-requires
+fill-requires c =
     let pre = c.requires in
     pre.wanted_long
 
@@ -15,14 +15,14 @@ pub mark_gates-requires : goal.mark_gates-requires
 mark_gates-requires c =
     let a = c.args in
     let p = c.requires in
-    let same = ap length c.clear.ensures ∙ cleared_size a.numbers.nodes a.wanted.now p.wanted_long in
+    let same = ap length c.fill.ensures ∙ cleared_size a.numbers.nodes a.wanted.now p.wanted_long in
     rw same (outputs_fit p)
 
 pub loop-v-init : goal.loop-v-init
 loop-v-init c =
     let args = c.args in
     let pre = c.requires in
-    wanted_begin pre args.wanted.now refl c.clear.ensures c.mark_gates.ensures
+    wanted_begin pre args.wanted.now refl c.fill.ensures c.mark_gates.ensures
 
 pub overflow_cast-v : goal.overflow_cast-v
 overflow_cast-v c =
@@ -34,7 +34,7 @@ mark_leaves-requires c =
     let a = c.args in
     let p = c.requires in
     let l = c.loop-v in
-    let same = ap length c.clear.ensures ∙ cleared_size a.numbers.nodes a.wanted.now p.wanted_long in
+    let same = ap length c.fill.ensures ∙ cleared_size a.numbers.nodes a.wanted.now p.wanted_long in
     rw (l.invariant.rest.size, c.mark_gates.ensures.long, same)
     (leaves_fit p l.invariant.above c.loop-v-test.true)
 
@@ -54,12 +54,12 @@ pub shape_of-wanted : goal.shape_of-wanted
 shape_of-wanted c =
     let a = c.args in
     let p = c.requires in
-    let same = ap length c.clear.ensures ∙ cleared_size a.numbers.nodes a.wanted.now p.wanted_long in
+    let same = ap length c.fill.ensures ∙ cleared_size a.numbers.nodes a.wanted.now p.wanted_long in
     c.loop-v.invariant.rest.size ∙ c.mark_gates.ensures.long ∙ same
 
 pub returns : goal.returns
 returns c =
     let args = c.args in
     let pre = c.requires in
-    wanted_all pre args.wanted.now refl c.clear.ensures c.mark_gates.ensures
+    wanted_all pre args.wanted.now refl c.fill.ensures c.mark_gates.ensures
     (omega (arith, c.loop-v-test.false)) c.loop-v.invariant
