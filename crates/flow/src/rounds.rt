@@ -9,35 +9,26 @@ use crate::cells::{INS, NEXT, NOT_FOUND, OUTS, at, clear};
 use storage::lists::put_node;
 use storage::{CutSize, Node, Numbers};
 
-// How the rounds end: with K + 1 paths, or full with fewer: as many as the least cut has leaves.
-#[derive(Clone, Copy)]
-pub enum Outcome {
-    Many,
-    Full(CutSize),
-}
-
+// Full with fewer than K + 1 paths: as many as the least cut has leaves; or none, with K + 1.
 pub fn run(
     numbers: Numbers,
     fanins: &[u16],
     order: &[u16],
     roles: &[u8],
     links: &mut [u16],
-) -> Outcome
+) -> Option<CutSize>
     requires { RunAsked numbers.inputs numbers.nodes numbers.k.leaves fanins.now order.now roles.now links.old }
     ensures ran { Ran numbers.inputs numbers.nodes numbers.k.leaves fanins.now roles.now result links.new }
     ensures beyond { Beyond (5 * numbers.nodes) links.old links.new }
 {
     clear(links, numbers.nodes, NEXT, 2);
-    let k = numbers.k;
-    let most = k.leaves;
-    let mut number: u8 = 0;
-    while number <= most {
+    let rounds = numbers.k.leaves + 1;
+    for number in 0..rounds {
         if !add_path(numbers, fanins, order, roles, links) {
-            return Outcome::Full(CutSize { leaves: number });
+            return Some(CutSize { leaves: number });
         }
-        number += 1;
     }
-    Outcome::Many
+    None
 }
 
 // Writes v as the j-th leaf, if it is one; answers how many there are then.
@@ -61,9 +52,7 @@ pub fn write_leaves(nodes: usize, links: &[u16], cut: &mut [u16])
     ensures { cut.new ≡ sets cut.old 0 (leaves_in nodes links.now) }
 {
     let mut j: usize = 0;
-    let mut i: usize = 0;
-    while i < nodes {
+    for i in 0..nodes {
         j = put_leaf(nodes, links, Node { id: i as u16 }, j, cut);
-        i += 1;
     }
 }

@@ -45,7 +45,7 @@ returns-in_default c =
 
 pub write_leaves-requires : goal.write_leaves-requires
 write_leaves-requires c =
-    let full = ran_full c.run-outcome.ensures.ran c.in-Full.is in
+    let full = ran_full c.run-outcome.ensures.ran c.in-Some.is in
     leaves_asked (run_asked c.requires).field full c.requires.drawing.k_small c.requires.cut_long
 
 pub overflow_mul-nodes : goal.overflow_mul-nodes
@@ -58,6 +58,6 @@ clear-requires-2 c =
 
 pub returns : goal.returns
 returns c =
-    let full = ran_full c.run-outcome.ensures.ran c.in-Full.is in
+    let full = ran_full c.run-outcome.ensures.ran c.in-Some.is in
     answer_cut c.requires c.run-outcome.ensures.beyond full c.clear-2.ensures
     c.write_leaves.ensures

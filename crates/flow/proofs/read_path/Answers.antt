@@ -19,4 +19,4 @@ pub returns : goal.returns
 returns c =
     let a = c.args in
     path_read a.numbers.inputs a.numbers.nodes a.links.now a.i
-    c.path_start-start.ensures c.in-At.is c.write_path.ensures
+    c.path_start-start.ensures c.in-Some.is c.write_path.ensures

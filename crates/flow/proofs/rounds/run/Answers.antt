@@ -36,14 +36,6 @@ returns-then-not-add_path c =
           (beyond_then c.loop-number.invariant.rest c.add_path.ensures.beyond);
     }
 
-pub overflow_add-number : goal.overflow_add-number
-overflow_add-number c =
-    omega (arith, c.loop-number-test.true, c.requires.k_small)
-
-pub loop-number-smaller : goal.loop-number-smaller
-loop-number-smaller c =
-    omega (arith, c.loop-number-test.true)
-
 pub loop-number-preserved : goal.loop-number-preserved
 loop-number-preserved c =
     round_more c.loop-number.invariant c.add_path.ensures.round_done c.add_path.ensures.beyond
@@ -57,8 +49,7 @@ pub returns : goal.returns
 returns c =
     let a = c.args in
     let n = a.numbers in
-    let all : c.loop-number.number ≡ suc n.k.leaves =
-    omega (arith, c.loop-number.invariant.few, c.loop-number-test.false) in record {
+    let all : c.loop-number.number ≡ suc n.k.leaves = omega arith in record {
       ran = Ran.many refl
           (subst (FlowIn n.inputs n.nodes a.fanins.now a.roles.now c.loop-number.links) all
           c.loop-number.invariant.flow);

@@ -27,10 +27,6 @@ put_leaf-j-requires c =
       room = leaf_room c.loop-i.invariant c.loop-i-test.true p.room;
     }
 
-pub overflow_add-i : goal.overflow_add-i
-overflow_add-i c =
-    omega (arith, c.requires.small)
-
 pub loop-i-preserved : goal.loop-i-preserved
 loop-i-preserved c =
     leaf_turn c.loop-i.invariant c.loop-i-test.true c.put_leaf-j.ensures
@@ -42,5 +38,5 @@ pub returns : goal.returns
 returns c =
     let a = c.args in
     let l = c.loop-i.invariant in
-    let all : c.loop-i.i ≡ a.nodes = omega (arith, l.passed, c.loop-i-test.false) in
+    let all : c.loop-i.i ≡ a.nodes = omega arith in
     l.same ∙ ap (λ (m : ℕ). sets a.cut.now 0 (those (leaf_in a.nodes a.links.now) m)) all

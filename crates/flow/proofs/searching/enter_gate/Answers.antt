@@ -11,10 +11,10 @@ use Rattle.flow.proofs.searching.enter_gate.Goals as goal
 pub returns-then-at-ne-NOT_FOUND : goal.returns-then-at-ne-NOT_FOUND
 returns-then-at-ne-NOT_FOUND c = VisitedIn.stays refl refl (inl (omega arith))
 
-pub returns-then-from-eq-NO_LINK : goal.returns-then-from-eq-NO_LINK
-returns-then-from-eq-NO_LINK c = VisitedIn.stays refl refl (inr (entered_none c.way_in-from.ensures c.if-from-eq-NO_LINK.true))
+pub returns-in_default : goal.returns-in_default
+returns-in_default c = VisitedIn.stays refl refl (inr (entered_none c.in_default.ensures refl))
 
 pub returns : goal.returns
 returns c =
-    VisitedIn.new c.way_in-from.result _ (add-one c.args.number) (omega arith) c.if-from-eq-NO_LINK.false
-    c.way_in-from.ensures (stored_next c.put.ensures) c.put-2.ensures
+    VisitedIn.new _ _ (add-one c.args.number) (omega arith) (λ e. omega arith)
+    c.in-Some.ensures (stored_next c.put.ensures) c.put_link.ensures

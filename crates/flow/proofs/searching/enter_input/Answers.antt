@@ -12,4 +12,4 @@ returns-then-at-ne-NOT_FOUND c = InputEntered.stays refl refl (omega arith)
 pub returns : goal.returns
 returns c =
     InputEntered.new _ (add-one c.args.number) (omega arith) (stored_next c.put.ensures)
-    c.put-2.ensures
+    c.put_link.ensures
