@@ -2,9 +2,18 @@
 -- the search's: by which number it found a node's in-state and its out-state, 0 for not at all, and from where it came to the in-state.
 use Rattle.std.specs.Prelude.{ℕ, suc, Option, None, Some, List}
 use Rattle.storage.specs.declared.Node.{Node}
+use Rattle.flow.specs.declared.cells.Column.{Column}
+use Rattle.flow.specs.declared.cells.Column.TheVariants.{Next, Prev, Ins, Outs, Parent}
 use Rattle.flow.specs.declared.cells.Link.{Link}
 use Rattle.flow.specs.declared.cells.Link.TheVariants.{Nowhere, Edge, To}
 use Rattle.storage.specs.Columns.{column}
+
+abbrev pub place : Column → ℕ
+place Next = 0
+place Prev = 1
+place Ins = 2
+place Outs = 3
+place Parent = 4
 
 abbrev pub next_in : (nodes : ℕ) (links : List ℕ) → List ℕ
 next_in nodes links = column nodes 0 links

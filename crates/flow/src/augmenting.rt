@@ -3,7 +3,7 @@ ghost use Rattle.std.specs.Prelude.{◌*◌};
 ghost use Rattle.storage.specs.Entries.{Beyond};
 ghost use Rattle.flow.specs.Augments.{FreeAsked, FreedIn, StepAsked, SteppedIn, RoundAsked, RoundDone};
 
-use crate::cells::{Link, NEXT, PARENT, PREV, link_at, put_link};
+use crate::cells::{Column, Link, link_at, put_link};
 use crate::searching::search;
 use storage::{Node, Numbers};
 
@@ -12,12 +12,12 @@ fn free(nodes: usize, links: &mut [u16], v: Node) -> Node
     requires { FreeAsked nodes links.old v.id }
     ensures { FreedIn nodes links.old v.id result.id links.new }
 {
-    let start = match link_at(links, nodes, NEXT, v) {
+    let start = match link_at(links, nodes, Column::Next, v) {
         Link::To(g) => g,
         _ => v,
     };
-    put_link(links, nodes, NEXT, v, Link::Edge);
-    put_link(links, nodes, PREV, start, Link::Edge);
+    put_link(links, nodes, Column::Next, v, Link::Edge);
+    put_link(links, nodes, Column::Prev, start, Link::Edge);
     start
 }
 
@@ -28,12 +28,12 @@ fn step_back(nodes: usize, links: &mut [u16], loose: Node, v: Node) -> Node
 {
     let freed = free(nodes, links, v);
     if v.id == loose.id {
-        put_link(links, nodes, NEXT, loose, Link::Nowhere);
-        put_link(links, nodes, PREV, loose, Link::Nowhere);
+        put_link(links, nodes, Column::Next, loose, Link::Nowhere);
+        put_link(links, nodes, Column::Prev, loose, Link::Nowhere);
         return freed;
     }
-    put_link(links, nodes, NEXT, v, Link::To(loose));
-    put_link(links, nodes, PREV, loose, Link::To(v));
+    put_link(links, nodes, Column::Next, v, Link::To(loose));
+    put_link(links, nodes, Column::Prev, loose, Link::To(v));
     freed
 }
 
@@ -54,7 +54,7 @@ pub fn add_path(
         return false;
     };
     let mut loose = free(numbers.nodes, links, end);
-    while let Link::To(v) = link_at(links, numbers.nodes, PARENT, loose) {
+    while let Link::To(v) = link_at(links, numbers.nodes, Column::Parent, loose) {
         loose = step_back(numbers.nodes, links, loose, v);
     }
     true

@@ -1,21 +1,27 @@
 // The links of the flow, in columns, and what their entries say.
-ghost use Rattle.std.specs.Prelude.{◌≡◌, ◌≤◌, ◌<◌, get_or};
+ghost use Rattle.std.specs.Prelude.{◌≡◌, ◌*◌, ◌≤◌, ◌<◌, get_or};
 ghost use Rattle.storage.specs.Columns.{column as columnOf};
-ghost use Rattle.flow.specs.Links.{code_of};
+ghost use Rattle.flow.specs.Links.{place, code_of};
 ghost use Rattle.flow.specs.Cells.{CellIn, Stored, ColumnsIn, Cleared};
 
 use storage::{Node, columns};
 
-// The columns: where paths lead, and what the search for one more found.
-pub const NEXT: usize = 0;
+// The columns, in their order: where paths lead, and what the search for one more found.
+#[derive(Clone, Copy)]
+pub enum Column {
+    Next,
+    Prev,
+    Ins,
+    Outs,
+    Parent,
+}
 
-pub const PREV: usize = 1;
-
-pub const INS: usize = 2;
-
-pub const OUTS: usize = 3;
-
-pub const PARENT: usize = 4;
+pub fn start_of(column: Column, nodes: usize) -> usize
+    requires { nodes ≤ 32767 }
+    ensures { result ≡ place column * nodes }
+{
+    column as usize * nodes
+}
 
 // A state that was not found has this for its number.
 pub const NOT_FOUND: u16 = 0;
@@ -57,47 +63,47 @@ fn code_of(link: Link) -> u16
 }
 
 // A column's start is made a slice of its own, so that a loop finds it but once.
-pub fn at(links: &[u16], nodes: usize, column: usize, v: Node) -> u16
-    requires { CellIn nodes column v.id links.now }
-    ensures { result ≡ get_or (columnOf nodes column links.now) v.id 0 }
+pub fn at(links: &[u16], nodes: usize, column: Column, v: Node) -> u16
+    requires { CellIn nodes (place column) v.id links.now }
+    ensures { result ≡ get_or (columnOf nodes (place column) links.now) v.id 0 }
 {
-    let start = column * nodes;
+    let start = start_of(column, nodes);
     let part = &links[start..];
     let i = v.id as usize;
     part[i]
 }
 
-pub fn put(links: &mut [u16], nodes: usize, column: usize, v: Node, x: u16)
-    requires { CellIn nodes column v.id links.old }
-    ensures { Stored nodes column v.id x links.old links.new }
+pub fn put(links: &mut [u16], nodes: usize, column: Column, v: Node, x: u16)
+    requires { CellIn nodes (place column) v.id links.old }
+    ensures { Stored nodes (place column) v.id x links.old links.new }
 {
-    let start = column * nodes;
+    let start = start_of(column, nodes);
     let part = &mut links[start..];
     let i = v.id as usize;
     part[i] = x;
 }
 
-pub fn link_at(links: &[u16], nodes: usize, column: usize, v: Node) -> Link
-    requires { CellIn nodes column v.id links.now }
-    ensures { code_of result ≡ get_or (columnOf nodes column links.now) v.id 0 }
+pub fn link_at(links: &[u16], nodes: usize, column: Column, v: Node) -> Link
+    requires { CellIn nodes (place column) v.id links.now }
+    ensures { code_of result ≡ get_or (columnOf nodes (place column) links.now) v.id 0 }
 {
     Link::from(at(links, nodes, column, v))
 }
 
-pub fn put_link(links: &mut [u16], nodes: usize, column: usize, v: Node, link: Link)
-    requires cell { CellIn nodes column v.id links.old }
+pub fn put_link(links: &mut [u16], nodes: usize, column: Column, v: Node, link: Link)
+    requires cell { CellIn nodes (place column) v.id links.old }
     requires fits { code_of link < 65536 }
-    ensures { Stored nodes column v.id (code_of link) links.old links.new }
+    ensures { Stored nodes (place column) v.id (code_of link) links.old links.new }
 {
     put(links, nodes, column, v, code_of(link));
 }
 
 // Clears columns that lie side by side: one run of stores.
-pub fn clear(links: &mut [u16], nodes: usize, first: usize, many: usize)
-    requires { ColumnsIn nodes first many links.old }
-    ensures { Cleared nodes first many links.old links.new }
+pub fn clear(links: &mut [u16], nodes: usize, first: Column, many: usize)
+    requires { ColumnsIn nodes (place first) many links.old }
+    ensures { Cleared nodes (place first) many links.old links.new }
 {
-    let start = first * nodes;
+    let start = start_of(first, nodes);
     let size = many * nodes;
     columns::clear(&mut links[start..], size);
 }

@@ -10,7 +10,7 @@ mod searching;
 ghost use Rattle.flow.specs.Reads.{ReadAsked, PathRead};
 ghost use Rattle.flow.specs.Answer.{FlowAsked, FlowAnswer};
 
-use crate::cells::INS;
+use crate::cells::Column;
 use storage::{CutSize, Numbers, columns};
 
 // How many columns the links have.
@@ -34,7 +34,7 @@ pub fn find(
     let gates = nodes - numbers.inputs;
     let outcome = rounds::run(numbers, fanins, &order[..gates], &roles[..nodes], links);
     let Some(size) = outcome else {
-        cells::clear(links, nodes, INS, 3);
+        cells::clear(links, nodes, Column::Ins, 3);
         return None;
     };
     rounds::write_leaves(nodes, links, cut);

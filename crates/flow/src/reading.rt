@@ -6,7 +6,7 @@ ghost use Rattle.flow.specs.Cells.{CellIn};
 ghost use Rattle.flow.specs.Paths.{follow};
 ghost use Rattle.flow.specs.Reads.{ReadAsked, StartRead, Listed};
 
-use crate::cells::{INS, Link, NEXT, PREV, link_at};
+use crate::cells::{Column, Link, link_at, start_of};
 use storage::Node;
 
 // How many paths start at v: one or none.
@@ -14,7 +14,7 @@ fn starts_at(links: &[u16], nodes: usize, v: Node) -> usize
     requires { CellIn nodes 1 v.id links.now }
     ensures { result ≡ cond (eqb (cell (prev_in nodes links.now) v.id) 1) 1 0 }
 {
-    match link_at(links, nodes, PREV, v) {
+    match link_at(links, nodes, Column::Prev, v) {
         Link::Edge => 1,
         _ => 0,
     }
@@ -45,7 +45,7 @@ fn link_of(links: &[u16], nodes: usize, v: Node) -> Link
 {
     let i = v.id as usize;
     if i < nodes {
-        return link_at(links, nodes, NEXT, v);
+        return link_at(links, nodes, Column::Next, v);
     }
     Link::Nowhere
 }
@@ -56,7 +56,7 @@ pub fn write_path(links: &mut [u16], nodes: usize, first: Node) -> usize
     requires nodes_in_bounds { 5 * nodes ≤ length links.old }
     ensures { Listed (follow (cell (next_in nodes links.old)) nodes first.id) nodes links.old result links.new }
 {
-    let start = INS * nodes;
+    let start = start_of(Column::Ins, nodes);
     let mut v = first;
     for j in 0..nodes {
         links[start + j] = v.id;

@@ -5,7 +5,7 @@ ghost use Rattle.storage.specs.Entries.{Beyond};
 ghost use Rattle.flow.specs.Rounds.{RunAsked, Ran, leaves_in, LeafPut, LeafAsked, LeavesAsked};
 
 use crate::augmenting::add_path;
-use crate::cells::{INS, NEXT, NOT_FOUND, OUTS, at, clear};
+use crate::cells::{Column, NOT_FOUND, at, clear};
 use storage::lists::put_node;
 use storage::{CutSize, Node, Numbers};
 
@@ -21,7 +21,7 @@ pub fn run(
     ensures ran { Ran numbers.inputs numbers.nodes numbers.k.leaves fanins.now roles.now result links.new }
     ensures beyond { Beyond (5 * numbers.nodes) links.old links.new }
 {
-    clear(links, numbers.nodes, NEXT, 2);
+    clear(links, numbers.nodes, Column::Next, 2);
     let rounds = numbers.k.leaves + 1;
     for number in 0..rounds {
         if !add_path(numbers, fanins, order, roles, links) {
@@ -36,10 +36,10 @@ fn put_leaf(nodes: usize, links: &[u16], v: Node, j: usize, cut: &mut [u16]) -> 
     requires { LeafAsked nodes links.now v.id j cut.old }
     ensures { LeafPut nodes links.now v.id j cut.old result cut.new }
 {
-    if at(links, nodes, INS, v) == NOT_FOUND {
+    if at(links, nodes, Column::Ins, v) == NOT_FOUND {
         return j;
     }
-    if at(links, nodes, OUTS, v) != NOT_FOUND {
+    if at(links, nodes, Column::Outs, v) != NOT_FOUND {
         return j;
     }
     put_node(cut, j, v);

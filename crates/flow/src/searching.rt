@@ -8,7 +8,7 @@ ghost use Rattle.flow.specs.Sweeps.{EndReached, EndAsked, SweepAsked, SweptSo, S
 ghost use Rattle.flow.specs.Turns.{FaninFound, Entered, Left, VisitedIn, InputEntered, VisitedOut, InputVisited, Visited};
 ghost use Rattle.flow.specs.Turns.{InAsked, OutAsked, EnterAsked, LeaveAsked, InputAsked, GateAsked};
 
-use crate::cells::{INS, Link, NEXT, NOT_FOUND, OUTS, PARENT, at, clear, link_at, put, put_link};
+use crate::cells::{Column, Link, NOT_FOUND, at, clear, link_at, put, put_link};
 use std::ops::ControlFlow;
 use storage::lists::{entry_at, size_at};
 use storage::roles::{END, is_free};
@@ -23,7 +23,7 @@ fn found_fanin(numbers: Numbers, fanins: &[u16], links: &[u16], v: Node) -> Opti
     let most = size_at(fanins, v);
     for i in 0..most {
         let u = entry_at(fanins, v, i);
-        if at(links, nodes, OUTS, u) != NOT_FOUND {
+        if at(links, nodes, Column::Outs, u) != NOT_FOUND {
             return Some(u);
         }
     }
@@ -40,10 +40,10 @@ fn way_in(numbers: Numbers, fanins: &[u16], links: &[u16], v: Node) -> Option<No
     if let Some(u) = found_fanin(numbers, fanins, links, v) {
         return Some(u);
     }
-    if let Link::Nowhere = link_at(links, nodes, NEXT, v) {
+    if let Link::Nowhere = link_at(links, nodes, Column::Next, v) {
         return None;
     }
-    if at(links, nodes, OUTS, v) == NOT_FOUND {
+    if at(links, nodes, Column::Outs, v) == NOT_FOUND {
         return None;
     }
     Some(v)
@@ -54,10 +54,10 @@ fn way_out(nodes: usize, links: &[u16], v: Node) -> bool
     requires { OutAsked nodes links.now v.id }
     ensures { Left (next_in nodes links.now) (ins_in nodes links.now) v.id result }
 {
-    match link_at(links, nodes, NEXT, v) {
-        Link::Nowhere => at(links, nodes, INS, v) != NOT_FOUND,
+    match link_at(links, nodes, Column::Next, v) {
+        Link::Nowhere => at(links, nodes, Column::Ins, v) != NOT_FOUND,
         Link::Edge => false,
-        Link::To(g) => at(links, nodes, INS, g) != NOT_FOUND,
+        Link::To(g) => at(links, nodes, Column::Ins, g) != NOT_FOUND,
     }
 }
 
@@ -67,11 +67,11 @@ fn enter_input(nodes: usize, links: &mut [u16], v: Node, number: u16) -> u16
     requires number_bound { number < 65535 }
     ensures { InputEntered nodes links.old v.id number result links.new }
 {
-    if at(links, nodes, INS, v) != NOT_FOUND {
+    if at(links, nodes, Column::Ins, v) != NOT_FOUND {
         return number;
     }
-    put(links, nodes, INS, v, number + 1);
-    put_link(links, nodes, PARENT, v, Link::Edge);
+    put(links, nodes, Column::Ins, v, number + 1);
+    put_link(links, nodes, Column::Parent, v, Link::Edge);
     number + 1
 }
 
@@ -81,14 +81,14 @@ fn enter_gate(numbers: Numbers, fanins: &[u16], links: &mut [u16], v: Node, numb
     ensures { VisitedIn numbers.inputs numbers.nodes fanins.now links.old v.id number result links.new }
 {
     let nodes = numbers.nodes;
-    if at(links, nodes, INS, v) != NOT_FOUND {
+    if at(links, nodes, Column::Ins, v) != NOT_FOUND {
         return number;
     }
     let Some(from) = way_in(numbers, fanins, links, v) else {
         return number;
     };
-    put(links, nodes, INS, v, number + 1);
-    put_link(links, nodes, PARENT, v, Link::To(from));
+    put(links, nodes, Column::Ins, v, number + 1);
+    put_link(links, nodes, Column::Parent, v, Link::To(from));
     number + 1
 }
 
@@ -97,11 +97,11 @@ fn leave(nodes: usize, links: &mut [u16], v: Node, number: u16) -> u16
     requires { LeaveAsked nodes links.old v.id number }
     ensures { VisitedOut nodes links.old v.id number result links.new }
 {
-    if at(links, nodes, OUTS, v) != NOT_FOUND {
+    if at(links, nodes, Column::Outs, v) != NOT_FOUND {
         return number;
     }
     if way_out(nodes, links, v) {
-        put(links, nodes, OUTS, v, number + 1);
+        put(links, nodes, Column::Outs, v, number + 1);
         return number + 1;
     }
     number
@@ -147,7 +147,7 @@ fn is_reached(nodes: usize, roles: &[u8], links: &[u16], v: Node) -> bool
 {
     let i = v.id as usize;
     if roles[i] == END {
-        return at(links, nodes, OUTS, v) != NOT_FOUND;
+        return at(links, nodes, Column::Outs, v) != NOT_FOUND;
     }
     false
 }
@@ -196,7 +196,7 @@ pub fn search(
     ensures sought_so { SoughtSo numbers.inputs numbers.nodes fanins.now roles.now result links.new }
     ensures paths_kept { PathsKept numbers.nodes links.old links.new }
 {
-    clear(links, numbers.nodes, INS, 2);
+    clear(links, numbers.nodes, Column::Ins, 2);
     let mut number: u16 = 0;
     loop {
         match sweep(numbers, fanins, order, roles, links, number) {

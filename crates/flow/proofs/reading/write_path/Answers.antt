@@ -20,10 +20,13 @@ link_of-requires c = simp length-set (omega (arith, path_long c.loop-j.invariant
 
 pub returns-in_default : goal.returns-in_default
 returns-in_default c =
-    follow_stops c.loop-j.invariant c.loop-j-test.true c.link_of.ensures (no_node _ c.in_default.not-To)
+    rw c.start_of-start.ensures
+    (follow_stops c.loop-j.invariant c.loop-j-test.true (rw c.start_of-start.ensures at c.link_of.ensures) (no_node _ c.in_default.not-To))
 
 pub loop-j-preserved : goal.loop-j-preserved
-loop-j-preserved c = follow_turn c.loop-j.invariant c.loop-j-test.true c.in-To.ensures refl
+loop-j-preserved c =
+    let leads = c.in-To.ensures in
+    rw c.start_of-start.ensures (follow_turn c.loop-j.invariant c.loop-j-test.true (rw c.start_of-start.ensures at leads) refl)
 
 pub returns : goal.returns
 returns c = follow_full c.loop-j.invariant (omega arith)
