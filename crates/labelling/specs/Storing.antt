@@ -1,6 +1,6 @@
 -- Labels and cuts in arrays: a label a node, and a list of leaves a node.
 use Rattle.std.specs.Prelude.{ℕ, suc, ◌+◌, ◌*◌, ◌≤◌, ◌<◌, ◌≡◌, Option, None, Some, length, get_or, set}
-use mathlib.Core.List.{List, [], ◌∷◌, ◌++◌, Memᴰ}
+use mathlib.Core.List.{List, ◌∷◌, Memᴰ}
 use Rattle.std.proofs.lemmas.List.Edits.{sets}
 use Rattle.storage.specs.declared.Node.{Node}
 use Rattle.storage.specs.Drawings.{net_in}
@@ -50,10 +50,6 @@ pub record LabellingMade (net : Net) (k : ℕ) (labels₀ cuts₀ labels cuts : 
 pub data LeastFrom (l : List ℕ) (from : ℕ) : Option Node → Type 0 where
   at : {v : Node} → Memᴰ v.id l → from ≤ v.id → ((u : ℕ) → Memᴰ u l → from ≤ u → v.id ≤ u) → LeastFrom l from (Some v)
   nothing : ((u : ℕ) → Memᴰ u l → from ≤ u → ⊥) → LeastFrom l from None
-
--- Where `best` is the least of a list, r is the least of that list and v.
-abbrev pub Lowered : (best : Option Node) (from v : ℕ) (r : Option Node) → Type 0
-Lowered best from v r = (l : List ℕ) → LeastFrom l from best → LeastFrom (l ++ (v ∷ [])) from r
 
 -- A gate's fanins lie within the array.
 pub record FaninsRoom (fanins : List ℕ) (gate : ℕ) : Type 0 where
