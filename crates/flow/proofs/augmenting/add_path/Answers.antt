@@ -6,17 +6,13 @@ use Rattle.storage.proofs.Clears.{beyond_then}
 use Rattle.flow.specs.Augments.{FlowIn, RoundDone}
 use Rattle.flow.proofs.Sweeping.{sought_end, sought_nothing}
 use Rattle.flow.proofs.Augmented.{round_search, flow_kept, augment_asked, augment_starts}
-use Rattle.flow.proofs.Augmented.{augment_adds, loose_cell, step_asked, step_falls, augment_step, augment_ends}
+use Rattle.flow.proofs.Augmented.{augment_adds, step_asked, augment_step, augment_ends}
 use Rattle.flow.proofs.Ways.{no_node}
 use Rattle.flow.proofs.augmenting.add_path.Goals as goal
 
 pub search-sought-requires : goal.search-sought-requires
 search-sought-requires c =
     round_search c.requires
-
-pub shape_of-links-in_default : goal.shape_of-links-in_default
-shape_of-links-in_default c =
-    c.search-sought.ensures.paths_kept.rest.size
 
 pub returns-in_default : goal.returns-in_default
 returns-in_default c =
@@ -38,14 +34,8 @@ loop-v-init c =
     let end = sought_end c.search-sought.ensures.sought_so c.in-Some.is in
     augment_starts g flow end c.free-loose.ensures
 
-pub link_at-requires : goal.link_at-requires
-link_at-requires c = loose_cell c.requires.field.ground c.loop-v.invariant
-
 pub step_back-loose-requires : goal.step_back-loose-requires
 step_back-loose-requires c = step_asked c.requires.field.ground c.loop-v.invariant c.in-To.ensures
-
-pub loop-v-smaller : goal.loop-v-smaller
-loop-v-smaller c = step_falls c.requires.field.ground c.loop-v.invariant c.in-To.ensures c.step_back-loose.ensures
 
 pub loop-v-preserved : goal.loop-v-preserved
 loop-v-preserved c = augment_step c.requires.field.ground c.loop-v.invariant c.in-To.ensures c.step_back-loose.ensures

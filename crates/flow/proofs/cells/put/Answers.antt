@@ -4,12 +4,6 @@ use Rattle.storage.proofs.Rests.{rest_length}
 use Rattle.flow.proofs.Columns.{cell_low, set_stored}
 use Rattle.flow.proofs.cells.put.Goals as goal
 
-pub offset_bounds-links-start : goal.offset_bounds-links-start
-offset_bounds-links-start c = let low = cell_low c.requires in omega arith
-
-pub slice_bounds-part-count : goal.slice_bounds-part-count
-slice_bounds-part-count c = let low = cell_low c.requires in omega arith
-
 pub offset_bounds-part-i : goal.offset_bounds-part-i
 offset_bounds-part-i c =
     let a = c.args in

@@ -16,10 +16,6 @@ pub loop-v-init : goal.loop-v-init
 unfolding those
 loop-v-init c = (refl, omega arith, omega arith)
 
-pub overflow_cast-start : goal.overflow_cast-start
-overflow_cast-start c =
-    omega (arith, c.requires.span, c.requires.small)
-
 pub starts_at-requires : goal.starts_at-requires
 starts_at-requires c =
     let p = c.requires in

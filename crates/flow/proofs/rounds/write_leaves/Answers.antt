@@ -5,17 +5,13 @@ use mathlib.Core.Path.{◌≡◌, ap, ◌∙◌}
 use lib.Seq.{sets}
 use Rattle.flow.specs.Numbers.{those}
 use Rattle.flow.specs.Rounds.{leaf_in}
-use Rattle.flow.proofs.Rounded.{none_written, cut_size, leaf_room, leaf_turn}
+use Rattle.flow.proofs.Rounded.{none_written, leaf_room, leaf_turn}
 use Rattle.flow.proofs.rounds.write_leaves.Goals as goal
 
 pub loop-i-init : goal.loop-i-init
 loop-i-init c =
     none_written c.args.nodes c.args.links.now
     c.args.cut.now
-
-pub overflow_cast-i : goal.overflow_cast-i
-overflow_cast-i c =
-    omega (arith, c.requires.small)
 
 pub put_leaf-j-requires : goal.put_leaf-j-requires
 put_leaf-j-requires c =
@@ -30,9 +26,6 @@ put_leaf-j-requires c =
 pub loop-i-preserved : goal.loop-i-preserved
 loop-i-preserved c =
     leaf_turn c.loop-i.invariant c.loop-i-test.true c.put_leaf-j.ensures
-
-pub shape_of-cut : goal.shape_of-cut
-shape_of-cut c = cut_size c.loop-i.invariant
 
 pub returns : goal.returns
 returns c =

@@ -9,16 +9,6 @@ use Rattle.flow.specs.Turns.{FaninFound}
 use Rattle.flow.proofs.Ways.{entry_feeds, entry_known, none_passed}
 use Rattle.flow.proofs.searching.found_fanin.Goals as goal
 
-pub size_at-most-requires : goal.size_at-most-requires
-size_at-most-requires c = omega (arith, c.requires.fed.long)
-
-pub loop-i-init : goal.loop-i-init
-loop-i-init c = λ j low. absurd (omega arith)
-
-pub entry_at-u-requires : goal.entry_at-u-requires
-entry_at-u-requires c =
-    record { i_bound = omega (arith, c.requires.fed.six); id_in_bounds = c.requires.fed.long }
-
 pub at-requires : goal.at-requires
 at-requires c =
     let p = c.requires in

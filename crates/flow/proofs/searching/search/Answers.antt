@@ -8,22 +8,9 @@ use Rattle.flow.proofs.Finding.{searched_room}
 use Rattle.flow.proofs.Sweeping.{search_starts, paths_cleared, swept_reached, swept_up_to}
 use Rattle.flow.proofs.searching.search.Goals as goal
 
-pub clear-requires : goal.clear-requires
-clear-requires c =
-    record { small = c.requires.field.ground.small; long = c.requires.long; of_five = omega arith }
-
 pub loop-end-init : goal.loop-end-init
 loop-end-init c =
     (search_starts c.requires c.clear.ensures, paths_same c.args.numbers.nodes _)
-
-pub sweep-requires : goal.sweep-requires
-sweep-requires c =
-    record { field = c.requires.field; searched = c.loop-end.invariant.0 }
-
-pub shape_of-links-in-Break : goal.shape_of-links-in-Break
-shape_of-links-in-Break c =
-    (paths_then (paths_cleared (omega arith) c.clear.ensures)
-    (paths_then c.loop-end.invariant.1 c.sweep.ensures.paths_kept)).rest.size
 
 pub returns-in-Break : goal.returns-in-Break
 returns-in-Break c =
@@ -32,11 +19,6 @@ returns-in-Break c =
       sought_so = SoughtSo.ended _ refl (swept_reached c.sweep.ensures.swept_so c.in-Break.is);
       paths_kept = paths_then (paths_cleared (omega arith) c.clear.ensures) kept;
     }
-
-pub shape_of-links-in-Continue : goal.shape_of-links-in-Continue
-shape_of-links-in-Continue c =
-    (paths_then (paths_cleared (omega arith) c.clear.ensures)
-    (paths_then c.loop-end.invariant.1 c.sweep.ensures.paths_kept)).rest.size
 
 pub returns-in-Continue : goal.returns-in-Continue
 returns-in-Continue c =

@@ -6,13 +6,9 @@ use lib.ListN.{length}
 use Rattle.flow.specs.Sweeps.{SweptSo}
 use Rattle.flow.proofs.Columns.{paths_then}
 use Rattle.flow.proofs.Finding.{visited_input}
-use Rattle.flow.proofs.Sweeping.{sweep_starts, sweep_turn, order_size, gate_above, gate_below}
+use Rattle.flow.proofs.Sweeping.{sweep_turn, order_size, gate_above, gate_below}
 use Rattle.flow.proofs.Sweeping.{end_asked, sweep_settles}
 use Rattle.flow.proofs.searching.sweep.Goals as goal
-
-pub loop-i-init : goal.loop-i-init
-loop-i-init c =
-    sweep_starts c.requires.searched
 
 pub overflow_cast-v : goal.overflow_cast-v
 overflow_cast-v c =
@@ -73,9 +69,6 @@ loop-i-preserved c =
     c.visit_input-last.ensures in
     sweep_turn inv refl visited c.is_reached.ensures c.if-is_reached.false
 
-pub loop-id-init : goal.loop-id-init
-loop-id-init c = sweep_starts c.loop-i.invariant.searched
-
 pub visit_gate-last-requires : goal.visit_gate-last-requires
 visit_gate-last-requires c =
     let f = c.requires.field in
@@ -98,11 +91,6 @@ is_reached-requires-in-loop-id c =
     end_asked f c.visit_gate-last.ensures.searched
     (gate_below f c.loop-id.id-index low)
 
-pub shape_of-links-then-is_reached-2 : goal.shape_of-links-then-is_reached-2
-shape_of-links-then-is_reached-2 c =
-    (paths_then c.loop-i.invariant.kept
-    (paths_then c.loop-id.invariant.kept c.visit_gate-last.ensures.kept)).rest.size
-
 pub returns-then-is_reached-2 : goal.returns-then-is_reached-2
 returns-then-is_reached-2 c =
     record {
@@ -120,10 +108,6 @@ pub loop-id-preserved : goal.loop-id-preserved
 loop-id-preserved c =
     sweep_turn c.loop-id.invariant refl c.visit_gate-last.ensures
     c.is_reached-in-loop-id.ensures c.if-is_reached-2.false
-
-pub shape_of-links : goal.shape_of-links
-shape_of-links c =
-    (paths_then c.loop-i.invariant.kept c.loop-id.invariant.kept).rest.size
 
 pub returns : goal.returns
 returns c =

@@ -2,8 +2,7 @@
 use native.Mathlib.Omega.{arith}
 use mathlib.Core.Path.{refl}
 use Rattle.flow.specs.Links.{next_in, outs_in}
-use Rattle.flow.specs.Turns.{Entered}
-use Rattle.flow.proofs.Ways.{some_link, enter_fanin, enter_none}
+use Rattle.flow.proofs.Ways.{enter_fanin, enter_none}
 use Rattle.flow.proofs.searching.way_in.Goals as goal
 
 pub returns-in-Some : goal.returns-in-Some
@@ -29,6 +28,3 @@ returns-then-at-eq-NOT_FOUND c =
     let l = a.links.now in
     enter_none a.numbers.inputs a.fanins.now (next_in n l) (outs_in n l) a.v.id
     c.in_default.ensures refl c.requires.gate (λ used. omega arith)
-
-pub returns : goal.returns
-returns c = Entered.own refl (omega (arith, c.link_at.ensures, some_link _ c.in_default-link_at.not-Nowhere)) (omega arith)
