@@ -165,9 +165,6 @@ module _ {inputs nodes k : ℕ} {fanins : List ℕ} (drawn : Drawn inputs nodes 
 -- The answer
 
 module _ {inputs nodes k : ℕ} {fanins order roles links cut : List ℕ} (asked : FlowAsked inputs nodes k fanins order roles links cut) where
-  pub gates_span : inputs ≤ nodes
-  gates_span = drawn_span asked.drawing.drawn
-
   pub run_asked : RunAsked inputs nodes k fanins (take (nodes - inputs) order) (take nodes roles) links
   run_asked =
       let marks = parts_marked asked.drawing.drawn asked.marks asked.roles_long in

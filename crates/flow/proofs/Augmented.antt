@@ -246,9 +246,6 @@ module _ {inputs nodes : ℕ} {fanins roles : List ℕ} (ground : Ground inputs 
     parent_kept : at (parent_in nodes links) loose ≡ from
     parent_kept = ap (λ (l : List ℕ). at l loose) a.kept.parent
 
-    pub loose_cell : CellIn nodes 4 loose links
-    loose_cell = found_cell a.searched a.kept a.found
-
     loose_here : loose < nodes
     loose_here = area_low ground loose (a.searched.found.in_area loose a.found)
 
@@ -310,12 +307,6 @@ module _ {inputs nodes : ℕ} {fanins roles : List ℕ} (ground : Ground inputs 
       module _ {links' : List ℕ} {r : ℕ} (s : SteppedIn nodes links loose v r links') where
         step_found : (1 ≤ ins r) × (ins r < outs v)
         step_found = freed_found step_way (step_freed s.stored)
-
-        pub step_falls : at (ins_in nodes links') r < at (ins_in nodes links) loose
-        step_falls =
-            let before = step_found in
-            let less = goes.less in
-            omega (arith, ap (λ (l : List ℕ). at l r) (s.kept.ins ∙ a.kept.ins), ap (λ (l : List ℕ). at l loose) a.kept.ins)
 
         pub augment_step : Augmenting inputs nodes fanins roles links₀ links' r
         augment_step =

@@ -112,14 +112,7 @@ pub record Following (nodes first : ℕ) (links₀ links : List ℕ) (v j : ℕ)
   pub same : links ≡ sets links₀ (2 * nodes) done
   pub rest : follow (at (next_in nodes links₀)) nodes first ≡ done ++ follow (at (next_in nodes links₀)) (nodes - j) v
 
-pub follow_starts : (nodes first : ℕ) (links : List ℕ) → Following nodes first links links first 0
-follow_starts nodes first links =
-    record { done = []; count = refl; same = refl; rest = ap (λ (m : ℕ). follow (at (next_in nodes links)) m first) (omega arith) }
-
 module _ {nodes first : ℕ} {links₀ links : List ℕ} {v j : ℕ} (f : Following nodes first links₀ links v j) where
-  pub path_long : length links ≡ length links₀
-  path_long = ap length f.same ∙ length-sets links₀ (2 * nodes) f.done
-
   abbrev next : ℕ → ℕ
   next = at (next_in nodes links₀)
 

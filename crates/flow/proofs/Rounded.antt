@@ -124,20 +124,8 @@ pub none_written : (nodes : ℕ) (links cut : List ℕ) → Written nodes links 
 unfolding those
 none_written nodes links cut = record { count = refl; same = refl }
 
--- tests of a leaf, by what is read of its states
-pub not_entered : {c s : ℕ} (t : ℕ) → c ≡ s → c ≡ 0 → is_leaf s t ≡ false
-not_entered {s = zero} t read none = refl
-not_entered {s = suc s} t read none = absurd (omega arith)
-
+-- the test of a leaf, by what is read of its states
 module _ {c s d t : ℕ} (in-read : c ≡ s) (out-read : d ≡ t) where
-  pub was_left : (d ≡ 0 → ⊥) → is_leaf s t ≡ false
-  was_left some = told s t (λ none. some (out-read ∙ none))
-    where
-      told : (s t : ℕ) → (t ≡ 0 → ⊥) → is_leaf s t ≡ false
-      told zero t some = refl
-      told (suc s) zero some = absurd (some refl)
-      told (suc s) (suc t) some = refl
-
   pub is_leaf_lem : (c ≡ 0 → ⊥) → d ≡ 0 → is_leaf s t ≡ true
   is_leaf_lem some none = told s t (λ zero. some (in-read ∙ zero)) (sym out-read ∙ none)
     where

@@ -2,7 +2,7 @@
 use Prim.Native.Nat.{ℕ, zero, suc, ◌+◌, ◌≤◌, ◌<◌}
 use native.Mathlib.Decide.{ℕ_discrete, dec_lt}
 use native.Mathlib.Omega.{arith}
-use mathlib.Core.Path.{◌≡◌, refl, sym, ap, subst, ◌∙◌}
+use mathlib.Core.Path.{◌≡◌, sym, ap, subst, ◌∙◌}
 use mathlib.Core.Bool.{Bool, true, false, not}
 use mathlib.Core.Logic.{inl}
 use mathlib.Core.List.{List}
@@ -21,7 +21,7 @@ use Rattle.flow.specs.Links.{next_in, outs_in}
 use Rattle.flow.specs.Cells.{Cleared, PathsKept}
 use Rattle.flow.specs.Turns.{Searched, Visited}
 use Rattle.flow.specs.Sweeps.{EndReached, EndAsked, Field, SettledIn, AllSettled, EndFound, SweptSo, SearchAsked, SoughtSo}
-use Rattle.flow.proofs.Columns.{paths_same, paths_then}
+use Rattle.flow.proofs.Columns.{paths_then}
 use Rattle.flow.proofs.Finding.{area_low, none_found}
 
 -- Ends
@@ -58,16 +58,6 @@ pub record SweepLeft (inputs nodes : ℕ) (fanins roles : List ℕ) (turn : ℕ 
   pub kept : PathsKept nodes links₀ links
 
 module _ {inputs nodes : ℕ} {fanins roles : List ℕ} {turn : ℕ → ℕ} {links₀ : List ℕ} {number : ℕ} where
-  pub sweep_starts : Searched inputs nodes fanins roles links₀ number → SweepLeft inputs nodes fanins roles turn links₀ number links₀ number 0
-  sweep_starts s =
-      record {
-        searched = s;
-        onward = omega arith;
-        same = λ _. refl;
-        settled = λ _ j low. absurd (omega arith);
-        kept = paths_same nodes links₀;
-      }
-
   take_turn : {links links' : List ℕ} {last i r : ℕ} {b : Bool} → SweepLeft inputs nodes fanins roles turn links₀ number links last i →
       Visited inputs nodes fanins roles links (turn i) last r links' → EndReached (ends_in roles) (outs_in nodes links') (turn i) b → b ≡ false →
       SweepLeft inputs nodes fanins roles turn links₀ number links' r (i + 1)
