@@ -26,5 +26,5 @@ pub returns-in-To : goal.returns-in-To
 returns-in-To c =
     let a = c.args in
     let l = a.links.now in
-    left_back (next_in a.nodes l) (ins_in a.nodes l) a.v.id c.in-To.g.id
-    c.at-in-To.result (sym c.in-To.ensures) c.at-in-To.ensures
+    left_back (next_in a.nodes l) (ins_in a.nodes l) a.v.id c.in-To.g.id _
+    (sym c.in-To.ensures) (omega (arith, c.at-in-To.ensures))
