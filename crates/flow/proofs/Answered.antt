@@ -19,9 +19,7 @@ use Rattle.storage.proofs.Drawings.{drawn_span}
 use Rattle.storage.proofs.Views.{view_size}
 use Rattle.storage.proofs.InRoles.{area_at, ends_at}
 use Rattle.area.specs.Area.{InArea}
-use Rattle.flow.specs.declared.Flow.TheVariants.{Paths, Cut}
-use Rattle.flow.specs.declared.rounds.Outcome.{Outcome}
-use Rattle.flow.specs.declared.rounds.Outcome.TheVariants.{Many, Full}
+use Rattle.std.specs.Prelude.{Option, None, Some}
 use Rattle.flow.specs.Area.{Marked}
 use Rattle.flow.specs.Paths.{paths_in, LinksIn}
 use Rattle.flow.specs.Cells.{Cleared}
@@ -48,15 +46,15 @@ pub record RanFull (inputs nodes k : ℕ) (fanins roles links : List ℕ) (numbe
   pub searched : Searched inputs nodes fanins roles links last
   pub settled : AllSettled inputs nodes fanins roles links
 
-module _ {inputs nodes k : ℕ} {fanins roles links : List ℕ} {r : Outcome} (ran : Ran inputs nodes k fanins roles r links) where
-  pub ran_many : r ≡ Many → FlowIn inputs nodes fanins roles links (suc k)
+module _ {inputs nodes k : ℕ} {fanins roles links : List ℕ} {r : Option CutSize} (ran : Ran inputs nodes k fanins roles r links) where
+  pub ran_many : r ≡ None → FlowIn inputs nodes fanins roles links (suc k)
   ran_many e = by_end ran
     where
       by_end : Ran inputs nodes k fanins roles r links → FlowIn inputs nodes fanins roles links (suc k)
       by_end (Ran.many _ flow) = flow
       by_end (Ran.full size last f _ _ _ _) = absurd (let z : ◌≡◌ {A = ℕ} 0 1 = cc in omega arith)
 
-  pub ran_full : {size : CutSize} → r ≡ Full size → RanFull inputs nodes k fanins roles links size.leaves
+  pub ran_full : {size : CutSize} → r ≡ Some size → RanFull inputs nodes k fanins roles links size.leaves
   ran_full {size} e = by_end ran
     where
       by_end : Ran inputs nodes k fanins roles r links → RanFull inputs nodes k fanins roles links size.leaves
@@ -167,9 +165,6 @@ module _ {inputs nodes k : ℕ} {fanins : List ℕ} (drawn : Drawn inputs nodes 
 -- The answer
 
 module _ {inputs nodes k : ℕ} {fanins order roles links cut : List ℕ} (asked : FlowAsked inputs nodes k fanins order roles links cut) where
-  pub gates_span : inputs ≤ nodes
-  gates_span = drawn_span asked.drawing.drawn
-
   pub run_asked : RunAsked inputs nodes k fanins (take (nodes - inputs) order) (take nodes roles) links
   run_asked =
       let marks = parts_marked asked.drawing.drawn asked.marks asked.roles_long in
@@ -190,7 +185,7 @@ module _ {inputs nodes k : ℕ} {fanins order roles links cut : List ℕ} (asked
 
   module _ {ran : List ℕ} (rest : Beyond (5 * nodes) links ran) where
     pub answer_paths : {links' : List ℕ} → FlowIn inputs nodes fanins (take nodes roles) ran (suc k) → Cleared nodes 2 3 ran links' →
-        FlowAnswer inputs nodes k fanins roles links cut Paths links' cut
+        FlowAnswer inputs nodes k fanins roles links cut None links' cut
     answer_paths flow clear =
         let after = flow_kept flow (paths_cleared (omega arith) clear) in
         let drawn = asked.drawing.drawn in
@@ -205,7 +200,7 @@ module _ {inputs nodes k : ℕ} {fanins order roles links cut : List ℕ} (asked
         refl
 
     pub answer_cut : {size : CutSize} {links' cut' : List ℕ} → RanFull inputs nodes k fanins (take nodes roles) ran size.leaves →
-        links' ≡ cleared (5 * nodes) ran → cut' ≡ sets cut 0 (leaves_in nodes ran) → FlowAnswer inputs nodes k fanins roles links cut (Cut size) links' cut'
+        links' ≡ cleared (5 * nodes) ran → cut' ≡ sets cut 0 (leaves_in nodes ran) → FlowAnswer inputs nodes k fanins roles links cut (Some size) links' cut'
     answer_cut {size} full clear written =
         FlowAnswer.cut size (leaves_in nodes ran) refl (leaves_number run_asked.field full)
         (λ lab t of. full_least asked.drawing.drawn of asked.roles_long asked.drawing.ordered full) (clear ∙ cleared_used (5 * nodes) rest) written

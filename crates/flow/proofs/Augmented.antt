@@ -12,7 +12,7 @@ use Rattle.storage.specs.Drawings.{net_in}
 use Rattle.storage.specs.Entries.{Beyond, Upd, at}
 use Rattle.storage.specs.Roles.{area_in, ends_in}
 use Rattle.storage.proofs.Clears.{beyond_same, beyond_then}
-use Rattle.flow.specs.Links.{next_in, prev_in, ins_in, outs_in, parent_in, edge_of_flow}
+use Rattle.flow.specs.Links.{next_in, prev_in, ins_in, outs_in, parent_in, link_to}
 use Rattle.flow.specs.Flow.{Linked, Carries, Open, WayIn, WayOut, Freed}
 use Rattle.flow.specs.Cells.{CellIn, PathsKept, StatesKept}
 use Rattle.flow.specs.Turns.{Ground, Searched}
@@ -152,7 +152,7 @@ module _ {net : Net} {area : ℕ → ℕ} (below : (v : ℕ) → area v ≡ 1 �
       }
 
 -- Over the array: a walk back from the end that the search of the links `old` found. Only next and prev were stored to since.
-pub record Augmenting (inputs nodes : ℕ) (fanins roles links₀ links : List ℕ) (loose from : ℕ) : Type 0 where
+pub record Augmenting (inputs nodes : ℕ) (fanins roles links₀ links : List ℕ) (loose : ℕ) : Type 0 where
   pub old : List ℕ
   pub last : ℕ
   pub searched : Searched inputs nodes fanins roles old last
@@ -163,7 +163,6 @@ pub record Augmenting (inputs nodes : ℕ) (fanins roles links₀ links : List �
   pub found : 1 ≤ at (ins_in nodes old) loose
   pub unread : (v : ℕ) → 1 ≤ at (outs_in nodes old) v → at (outs_in nodes old) v < at (ins_in nodes old) loose →
       at (next_in nodes links) v ≡ at (next_in nodes old) v
-  pub read : from ≡ at (parent_in nodes old) loose
 
 module _ {inputs nodes : ℕ} {fanins roles : List ℕ} (ground : Ground inputs nodes fanins roles) where
   below : (v : ℕ) → at (area_in roles) v ≡ 1 → v < (net_in inputs nodes fanins).nodes
@@ -210,12 +209,9 @@ module _ {inputs nodes : ℕ} {fanins roles : List ℕ} (ground : Ground inputs 
       unfolding net_in
       augment_adds = (open_start below flow.carries end_inside end.is_end f.stored).paths
 
-      pub start_cell : CellIn nodes 4 loose links'
-      start_cell = found_cell end.searched f.kept found_loose.0
-
-      pub augment_starts : {from : ℕ} → from ≡ at (parent_in nodes links') loose → Augmenting inputs nodes fanins roles links' links' loose from
+      pub augment_starts : Augmenting inputs nodes fanins roles links' links' loose
       unfolding net_in
-      augment_starts read =
+      augment_starts =
           let o = open_start below flow.carries end_inside end.is_end f.stored in
           record {
             old = links;
@@ -226,12 +222,11 @@ module _ {inputs nodes : ℕ} {fanins roles : List ℕ} (ground : Ground inputs 
             opened = record { linked = o.linked; stops = o.stops; starts = o.starts; loosened = o.loosened; paths = refl };
             found = found_loose.0;
             unread = λ w some less. f.stored.out.there w (λ same. omega (arith, found_loose.1, ap (at (outs_in nodes links)) same));
-            read = read ∙ ap (λ (l : List ℕ). at l loose) f.kept.parent;
           }
 
   -- One step
 
-  module _ {links₀ links : List ℕ} {loose from : ℕ} (a : Augmenting inputs nodes fanins roles links₀ links loose from) where
+  module _ {links₀ links : List ℕ} {loose : ℕ} (a : Augmenting inputs nodes fanins roles links₀ links loose) where
     abbrev next : ℕ → ℕ
     next = at (next_in nodes links)
 
@@ -244,13 +239,19 @@ module _ {inputs nodes : ℕ} {fanins roles : List ℕ} (ground : Ground inputs 
     abbrev outs : ℕ → ℕ
     outs = at (outs_in nodes a.old)
 
+    abbrev from : ℕ
+    from = at (parent_in nodes a.old) loose
+
+    -- the parent is as the search left it
+    parent_kept : at (parent_in nodes links) loose ≡ from
+    parent_kept = ap (λ (l : List ℕ). at l loose) a.kept.parent
+
     loose_here : loose < nodes
     loose_here = area_low ground loose (a.searched.found.in_area loose a.found)
 
     way : WayIn inputs ((net_in inputs nodes fanins).fanins loose) was outs loose from (ins loose)
     unfolding net_in
-    way = subst (λ (p : ℕ). WayIn inputs ((net_in inputs nodes fanins).fanins loose) was outs loose p (ins loose)) (sym a.read)
-        (a.searched.found.in_way loose a.found)
+    way = a.searched.found.in_way loose a.found
 
     -- where the walk goes on: v's out-state was found before
     record Goes (v : ℕ) : Type 0 where
@@ -271,15 +272,6 @@ module _ {inputs nodes : ℕ} {fanins roles : List ℕ} (ground : Ground inputs 
           feeds = λ apart. subst (λ (w : ℕ). Memᴰ w ((net_in inputs nodes fanins).fanins loose)) same feeds;
         }
 
-    -- a parent that is not the source is a node's out-state
-    pub parent_node : (from ≡ edge_of_flow → ⊥) → 2 ≤ from
-    parent_node apart = by_way way
-      where
-        by_way : WayIn inputs ((net_in inputs nodes fanins).fanins loose) was outs loose from (ins loose) → 2 ≤ from
-        by_way (WayIn.source low e) = absurd (apart e)
-        by_way (WayIn.own e _ _ _) = omega arith
-        by_way (WayIn.fanin u e _ _ _) = omega arith
-
     loose_goes : {v : ℕ} → (v ≡ loose → ⊥) ⊎ (1 ≤ next v)
     loose_goes {v} = by_place (ℕ_discrete v loose)
       where
@@ -287,9 +279,9 @@ module _ {inputs nodes : ℕ} {fanins roles : List ℕ} (ground : Ground inputs 
         by_place (no apart) = inl apart
         by_place (yes same) = let used = used_come a.opened.linked {v = loose} (omega (arith, a.opened.loosened)) in inr (omega (arith, ap next same))
 
-    module _ {v : ℕ} (e : from ≡ suc (suc v)) where
+    module _ {v : ℕ} (e : link_to v ≡ at (parent_in nodes links) loose) where
       goes : Goes v
-      goes = goes_by e way
+      goes = goes_by (sym parent_kept ∙ sym e) way
 
       step_inside : at (area_in roles) v ≡ 1
       step_inside = a.searched.found.out_area v goes.out
@@ -316,17 +308,8 @@ module _ {inputs nodes : ℕ} {fanins roles : List ℕ} (ground : Ground inputs 
         step_found : (1 ≤ ins r) × (ins r < outs v)
         step_found = freed_found step_way (step_freed s.stored)
 
-        pub step_falls : at (ins_in nodes links') r < at (ins_in nodes links) loose
-        step_falls =
-            let before = step_found in
-            let less = goes.less in
-            omega (arith, ap (λ (l : List ℕ). at l r) (s.kept.ins ∙ a.kept.ins), ap (λ (l : List ℕ). at l loose) a.kept.ins)
-
-        pub step_cell : CellIn nodes 4 r links'
-        step_cell = found_cell a.searched (states_then a.kept s.kept) step_found.0
-
-        pub augment_step : {from' : ℕ} → from' ≡ at (parent_in nodes links') r → Augmenting inputs nodes fanins roles links₀ links' r from'
-        augment_step read =
+        pub augment_step : Augmenting inputs nodes fanins roles links₀ links' r
+        augment_step =
             let before = step_found in
             let less = goes.less in
             record {
@@ -338,18 +321,17 @@ module _ {inputs nodes : ℕ} {fanins roles : List ℕ} (ground : Ground inputs 
               opened = open_step below a.opened step_inside loose_goes goes.feeds s.stored;
               found = before.0;
               unread = λ w some early. step_others s.stored w (λ same. omega (arith, ap outs same)) ∙ a.unread w some (omega arith);
-              read = read ∙ ap (λ (l : List ℕ). at l r) (s.kept.parent ∙ a.kept.parent);
             }
 
     -- Where it ends
 
-    pub augment_ends : from ≡ 1 → FlowIn inputs nodes fanins roles links (starts_of nodes links₀)
+    pub augment_ends : at (parent_in nodes links) loose < 2 → FlowIn inputs nodes fanins roles links (starts_of nodes links₀)
     augment_ends e = record { long = omega (arith, a.searched.long, a.kept.rest.size); carries = open_closed below a.opened (by_way way) }
       where
         by_way : WayIn inputs ((net_in inputs nodes fanins).fanins loose) was outs loose from (ins loose) → loose < (net_in inputs nodes fanins).inputs
         by_way (WayIn.source low _) = held_input inputs nodes fanins low
-        by_way (WayIn.own f _ _ _) = absurd (omega arith)
-        by_way (WayIn.fanin u f _ _ _) = absurd (omega arith)
+        by_way (WayIn.own f _ _ _) = absurd (omega (arith, parent_kept))
+        by_way (WayIn.fanin u f _ _ _) = absurd (omega (arith, parent_kept))
 
 -- A round's search can be asked for, and leaves the flow as it was
 

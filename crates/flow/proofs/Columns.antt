@@ -59,9 +59,6 @@ rest_entry {nodes} {c} {v} {links} cell =
 pub stored_next : {nodes c v n : ℕ} {l m : List ℕ} → Stored nodes c v (n + 1) l m → Stored nodes c v (suc n) l m
 stored_next {nodes} {c} {v} {n} {l} {m} s = subst (λ (x : ℕ). Stored nodes c v x l m) (add-one n) s
 
-pub stored_as : {nodes c v x y : ℕ} {l m : List ℕ} → x ≡ y → Stored nodes c v x l m → Stored nodes c v y l m
-stored_as {nodes} {c} {v} {l = l} {m = m} e s = subst (λ (z : ℕ). Stored nodes c v z l m) e s
-
 -- A clear
 
 pub clear_columns : {nodes first many : ℕ} {links part : List ℕ} → ColumnsIn nodes first many links →

@@ -17,8 +17,7 @@ use Rattle.storage.specs.Entries.{at, Beyond}
 use Rattle.storage.proofs.Stores.{sets_more, stored_beside}
 use Rattle.storage.proofs.Clears.{drop_same}
 use Rattle.storage.proofs.InColumns.{column_sets}
-use Rattle.flow.specs.declared.reading.Start.{Start}
-use Rattle.flow.specs.declared.reading.Start.TheVariants.{At, Missing}
+use Rattle.std.specs.Prelude.{Option, None, Some}
 use Rattle.flow.specs.Numbers.{those}
 use Rattle.flow.specs.Links.{next_in, prev_in, link_to}
 use Rattle.flow.specs.Paths.{onward, follow, starts_in, paths_in, LinksIn}
@@ -94,7 +93,7 @@ module _ (nodes : ℕ) (links : List ℕ) (v : ℕ) {seen found : ℕ} (count : 
   abbrev begins : ℕ → Bool
   begins u = eqb (at (prev_in nodes links) u) 1
 
-  pub start_at : (inputs i : ℕ) (r : Node) → v < inputs → r.id ≡ v → seen ≤ i → i < seen + found → StartRead inputs nodes links i (At r)
+  pub start_at : (inputs i : ℕ) (r : Node) → v < inputs → r.id ≡ v → seen ≤ i → i < seen + found → StartRead inputs nodes links i (Some r)
   start_at inputs i r low id passed high =
       let t : (begins v ≡ true) × (i ≡ length (starts_in v nodes links)) =
       test_true (begins v) {m = length (starts_in v nodes links)} {more = seen + found} (omega arith) (omega arith) high in
@@ -110,27 +109,19 @@ module _ (nodes : ℕ) (links : List ℕ) (v : ℕ) {seen found : ℕ} (count : 
 pub record Following (nodes first : ℕ) (links₀ links : List ℕ) (v j : ℕ) : Type 0 where
   pub done : List ℕ
   pub count : j ≡ length done
-  pub passed : j ≤ nodes
   pub same : links ≡ sets links₀ (2 * nodes) done
   pub rest : follow (at (next_in nodes links₀)) nodes first ≡ done ++ follow (at (next_in nodes links₀)) (nodes - j) v
 
-pub follow_starts : (nodes first : ℕ) (links : List ℕ) → Following nodes first links links first 0
-follow_starts nodes first links =
-    record { done = []; count = refl; passed = omega arith; same = refl; rest = ap (λ (m : ℕ). follow (at (next_in nodes links)) m first) (omega arith) }
-
 module _ {nodes first : ℕ} {links₀ links : List ℕ} {v j : ℕ} (f : Following nodes first links₀ links v j) where
-  pub path_long : length links ≡ length links₀
-  path_long = ap length f.same ∙ length-sets links₀ (2 * nodes) f.done
-
   abbrev next : ℕ → ℕ
   next = at (next_in nodes links₀)
 
-  pub follow_full : nodes ≤ j → Listed (follow (at (next_in nodes links₀)) nodes first) nodes links₀ j links
+  pub follow_full : j ≡ nodes → Listed (follow (at (next_in nodes links₀)) nodes first) nodes links₀ nodes links
   unfolding follow
-  follow_full high =
-      let left : nodes - j ≡ 0 = omega (arith, f.passed) in
+  follow_full end =
+      let left : nodes - j ≡ 0 = omega arith in
       let all : follow next nodes first ≡ f.done = f.rest ∙ ap (λ (m : ℕ). f.done ++ follow next m v) left ∙ append-nil f.done in
-      record { written = f.same ∙ ap (sets links₀ (2 * nodes)) (sym all); count = f.count ∙ ap length (sym all) }
+      record { written = f.same ∙ ap (sets links₀ (2 * nodes)) (sym all); count = sym end ∙ f.count ∙ ap length (sym all) }
 
   module _ (low : j < nodes) where
     abbrev more : List ℕ
@@ -174,7 +165,6 @@ module _ {nodes first : ℕ} {links₀ links : List ℕ} {v j : ℕ} (f : Follow
           record {
             done = more;
             count = counted;
-            passed = omega arith;
             same = stored;
             rest = split
                 ∙ ap (λ (l : List ℕ). more ++ l)
@@ -188,8 +178,8 @@ get_d_map f [] i low = absurd (not-suc-le-zero low)
 get_d_map f (x ∷ l) zero low = refl
 get_d_map f (x ∷ l) (suc i) low = get_d_map f l i (omega arith)
 
-module _ (inputs nodes : ℕ) (links : List ℕ) (i : ℕ) {r : Start} (read : StartRead inputs nodes links i r) where
-  pub path_read : {first : Node} {links' : List ℕ} {m : ℕ} → r ≡ At first →
+module _ (inputs nodes : ℕ) (links : List ℕ) (i : ℕ) {r : Option Node} (read : StartRead inputs nodes links i r) where
+  pub path_read : {first : Node} {links' : List ℕ} {m : ℕ} → r ≡ Some first →
       Listed (follow (at (next_in nodes links)) nodes first.id) nodes links m links' → PathRead inputs nodes links i m links'
   unfolding paths_in
   path_read {first} {links'} {m} f l = by_start read
@@ -203,7 +193,7 @@ module _ (inputs nodes : ℕ) (links : List ℕ) (i : ℕ) {r : Start} (read : S
           record { written = l.written ∙ ap (sets links (2 * nodes)) (sym ids); count = l.count ∙ ap length (sym ids) }
       by_start (StartRead.missing e high) = absurd (let z : ◌≡◌ {A = ℕ} 0 1 = cc in omega arith)
 
-  pub no_path_read : r ≡ Missing → PathRead inputs nodes links i 0 links
+  pub no_path_read : r ≡ None → PathRead inputs nodes links i 0 links
   unfolding paths_in
   no_path_read f = by_start read
     where

@@ -44,7 +44,6 @@ no_flow {net} {prev = prev} no-next no-prev =
 -- A flow of `number` paths, and no more of them than may be.
 pub record Running (inputs nodes k : ℕ) (fanins roles links₀ links : List ℕ) (number : ℕ) : Type 0 where
   pub flow : FlowIn inputs nodes fanins roles links number
-  pub few : number ≤ suc k
   pub rest : Beyond (5 * nodes) links₀ links
 
 module _ {inputs nodes k : ℕ} {fanins roles : List ℕ} where
@@ -56,7 +55,6 @@ module _ {inputs nodes k : ℕ} {fanins roles : List ℕ} where
           long = omega (arith, asked.long, clear.rest.size);
           carries = no_flow (zeros_in nodes (clear.zeros 0 (omega arith) (omega arith))) (zeros_in nodes (clear.zeros 1 (omega arith) (omega arith)));
         };
-        few = omega arith;
         rest = beyond_same (5 * nodes) _;
       }
 
@@ -73,7 +71,6 @@ module _ {inputs nodes k : ℕ} {fanins roles : List ℕ} where
     round_more {links' = links'} (RoundDone.more _ flow) rest yes-it-is low =
         record {
           flow = subst (FlowIn inputs nodes fanins roles links') (ap suc starts_number ∙ sym (add-one number)) flow;
-          few = omega arith;
           rest = beyond_then r.rest rest;
         }
     round_more (RoundDone.full _ e _ _ _) rest f low = absurd (let w : ◌≡◌ {A = ℕ} 0 1 = cc in omega arith)
@@ -87,7 +84,6 @@ module _ {inputs nodes k : ℕ} {fanins roles : List ℕ} where
 
 -- the leaves written so far
 pub record Written (nodes : ℕ) (links cut₀ cut : List ℕ) (j i : ℕ) : Type 0 where
-  pub passed : i ≤ nodes
   pub count : j ≡ length (those (leaf_in nodes links) i)
   pub same : cut ≡ sets cut₀ 0 (those (leaf_in nodes links) i)
 
@@ -113,7 +109,6 @@ module _ {nodes : ℕ} {links cut₀ cut : List ℕ} {j i : ℕ} (w : Written no
   leaf_turn low (LeafPut.put e f g) =
       let more : some (i + 1) ≡ some i ++ (i ∷ []) = ap some (add-one i) ∙ those_yes (leaf_in nodes links) i e in
       record {
-        passed = omega arith;
         count = omega (arith, w.count, ap length more, length-append (some i) (i ∷ []));
         same = g ∙ ap (λ (l : List ℕ). set l j i) w.same ∙ ap (λ (m : ℕ). set (sets cut₀ 0 (some i)) m i) (omega (arith, w.count))
             ∙ sets_more cut₀ 0 (some i) i ∙ ap (sets cut₀ 0) (sym more);
@@ -121,29 +116,16 @@ module _ {nodes : ℕ} {links cut₀ cut : List ℕ} {j i : ℕ} (w : Written no
   leaf_turn low (LeafPut.none e f g) =
       let still : some (i + 1) ≡ some i = ap some (add-one i) ∙ those_no (leaf_in nodes links) i e in
       record {
-        passed = omega arith;
         count = omega (arith, w.count, ap length still);
         same = g ∙ w.same ∙ ap (sets cut₀ 0) (sym still);
       }
 
 pub none_written : (nodes : ℕ) (links cut : List ℕ) → Written nodes links cut cut 0 0
 unfolding those
-none_written nodes links cut = record { passed = omega arith; count = refl; same = refl }
+none_written nodes links cut = record { count = refl; same = refl }
 
--- tests of a leaf, by what is read of its states
-pub not_entered : {c s : ℕ} (t : ℕ) → c ≡ s → c ≡ 0 → is_leaf s t ≡ false
-not_entered {s = zero} t read none = refl
-not_entered {s = suc s} t read none = absurd (omega arith)
-
+-- the test of a leaf, by what is read of its states
 module _ {c s d t : ℕ} (in-read : c ≡ s) (out-read : d ≡ t) where
-  pub was_left : (d ≡ 0 → ⊥) → is_leaf s t ≡ false
-  was_left some = told s t (λ none. some (out-read ∙ none))
-    where
-      told : (s t : ℕ) → (t ≡ 0 → ⊥) → is_leaf s t ≡ false
-      told zero t some = refl
-      told (suc s) zero some = absurd (some refl)
-      told (suc s) (suc t) some = refl
-
   pub is_leaf_lem : (c ≡ 0 → ⊥) → d ≡ 0 → is_leaf s t ≡ true
   is_leaf_lem some none = told s t (λ zero. some (in-read ∙ zero)) (sym out-read ∙ none)
     where

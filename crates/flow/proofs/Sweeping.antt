@@ -2,7 +2,7 @@
 use Prim.Native.Nat.{ℕ, zero, suc, ◌+◌, ◌≤◌, ◌<◌}
 use native.Mathlib.Decide.{ℕ_discrete, dec_lt}
 use native.Mathlib.Omega.{arith}
-use mathlib.Core.Path.{◌≡◌, refl, sym, ap, subst, ◌∙◌}
+use mathlib.Core.Path.{◌≡◌, sym, ap, subst, ◌∙◌}
 use mathlib.Core.Bool.{Bool, true, false, not}
 use mathlib.Core.Logic.{inl}
 use mathlib.Core.List.{List}
@@ -14,15 +14,14 @@ use Rattle.storage.specs.Drawings.{net_in}
 use Rattle.storage.specs.Entries.{at}
 use Rattle.storage.specs.Roles.{area_in, ends_in}
 use Rattle.storage.proofs.Entries.{member_at, place_of}
-use Rattle.flow.specs.declared.searching.Swept.{Swept}
-use Rattle.flow.specs.declared.searching.Swept.TheVariants.{Reached, UpTo}
-use Rattle.flow.specs.declared.searching.Sought.{Sought}
-use Rattle.flow.specs.declared.searching.Sought.TheVariants.{End, Nothing}
+use Rattle.std.specs.Prelude.{Option, None, Some}
+use Rattle.std.specs.declared.ops.ControlFlow.{ControlFlow}
+use Rattle.std.specs.declared.ops.ControlFlow.TheVariants.{Break, Continue}
 use Rattle.flow.specs.Links.{next_in, outs_in}
 use Rattle.flow.specs.Cells.{Cleared, PathsKept}
 use Rattle.flow.specs.Turns.{Searched, Visited}
 use Rattle.flow.specs.Sweeps.{EndReached, EndAsked, Field, SettledIn, AllSettled, EndFound, SweptSo, SearchAsked, SoughtSo}
-use Rattle.flow.proofs.Columns.{paths_same, paths_then}
+use Rattle.flow.proofs.Columns.{paths_then}
 use Rattle.flow.proofs.Finding.{area_low, none_found}
 
 -- Ends
@@ -59,16 +58,6 @@ pub record SweepLeft (inputs nodes : ℕ) (fanins roles : List ℕ) (turn : ℕ 
   pub kept : PathsKept nodes links₀ links
 
 module _ {inputs nodes : ℕ} {fanins roles : List ℕ} {turn : ℕ → ℕ} {links₀ : List ℕ} {number : ℕ} where
-  pub sweep_starts : Searched inputs nodes fanins roles links₀ number → SweepLeft inputs nodes fanins roles turn links₀ number links₀ number 0
-  sweep_starts s =
-      record {
-        searched = s;
-        onward = omega arith;
-        same = λ _. refl;
-        settled = λ _ j low. absurd (omega arith);
-        kept = paths_same nodes links₀;
-      }
-
   take_turn : {links links' : List ℕ} {last i r : ℕ} {b : Bool} → SweepLeft inputs nodes fanins roles turn links₀ number links last i →
       Visited inputs nodes fanins roles links (turn i) last r links' → EndReached (ends_in roles) (outs_in nodes links') (turn i) b → b ≡ false →
       SweepLeft inputs nodes fanins roles turn links₀ number links' r (i + 1)
@@ -170,15 +159,15 @@ paths_cleared high clear = record { next = clear.others 0 (inl (omega arith)); p
 
 -- How a sweep ended tells what it left.
 
-module _ {inputs nodes : ℕ} {fanins roles links : List ℕ} {number : ℕ} {r : Swept} (s : SweptSo inputs nodes fanins roles number r links) where
-  pub swept_reached : {v : Node} → r ≡ Reached v → EndFound inputs nodes fanins roles links v.id
+module _ {inputs nodes : ℕ} {fanins roles links : List ℕ} {number : ℕ} {r : ControlFlow Node ℕ} (s : SweptSo inputs nodes fanins roles number r links) where
+  pub swept_reached : {v : Node} → r ≡ Break v → EndFound inputs nodes fanins roles links v.id
   swept_reached {v} e = by_end s
     where
       by_end : SweptSo inputs nodes fanins roles number r links → EndFound inputs nodes fanins roles links v.id
       by_end (SweptSo.reached w f found) = subst (λ (u : Node). EndFound inputs nodes fanins roles links u.id) (cc) found
       by_end (SweptSo.up_to last f _ _ _) = absurd (let z : ◌≡◌ {A = ℕ} 0 1 = cc in omega arith)
 
-  pub swept_up_to : {m : ℕ} → r ≡ UpTo m → Searched inputs nodes fanins roles links m × (number ≤ m) × (m ≡ number → AllSettled inputs nodes fanins roles links)
+  pub swept_up_to : {m : ℕ} → r ≡ Continue m → Searched inputs nodes fanins roles links m × (number ≤ m) × (m ≡ number → AllSettled inputs nodes fanins roles links)
   swept_up_to {m} e = by_end s
     where
       by_end : SweptSo inputs nodes fanins roles number r links →
@@ -189,15 +178,15 @@ module _ {inputs nodes : ℕ} {fanins roles links : List ℕ} {number : ℕ} {r 
 
 -- How a search ended tells what it left.
 
-module _ {inputs nodes : ℕ} {fanins roles links : List ℕ} {r : Sought} (s : SoughtSo inputs nodes fanins roles r links) where
-  pub sought_end : {v : Node} → r ≡ End v → EndFound inputs nodes fanins roles links v.id
+module _ {inputs nodes : ℕ} {fanins roles links : List ℕ} {r : Option Node} (s : SoughtSo inputs nodes fanins roles r links) where
+  pub sought_end : {v : Node} → r ≡ Some v → EndFound inputs nodes fanins roles links v.id
   sought_end {v} e = by_end s
     where
       by_end : SoughtSo inputs nodes fanins roles r links → EndFound inputs nodes fanins roles links v.id
       by_end (SoughtSo.ended w f found) = subst (λ (u : Node). EndFound inputs nodes fanins roles links u.id) (cc) found
       by_end (SoughtSo.nothing last f _ _) = absurd (let z : ◌≡◌ {A = ℕ} 0 1 = cc in omega arith)
 
-  pub sought_nothing : r ≡ Nothing → (last : ℕ) × Searched inputs nodes fanins roles links last × AllSettled inputs nodes fanins roles links
+  pub sought_nothing : r ≡ None → (last : ℕ) × Searched inputs nodes fanins roles links last × AllSettled inputs nodes fanins roles links
   sought_nothing e = by_end s
     where
       by_end : SoughtSo inputs nodes fanins roles r links → (last : ℕ) × Searched inputs nodes fanins roles links last × AllSettled inputs nodes fanins roles links

@@ -14,8 +14,8 @@ use Rattle.storage.specs.Columns.{column}
 use Rattle.storage.specs.Entries.{at}
 use Rattle.storage.specs.Drawings.{net_in, Arranged}
 use Rattle.storage.proofs.InColumns.{column_size, columns_whole}
-use Rattle.flow.specs.declared.Flow.{Flow}
-use Rattle.flow.specs.declared.Flow.TheVariants.{Cut}
+use Rattle.std.specs.Prelude.{Option, Some}
+use Rattle.storage.specs.declared.CutSize.{CutSize}
 use Rattle.flow.specs.Paths.{paths_in, LinksIn}
 use Rattle.flow.specs.Answer.{FlowAsked, FlowLeft, FlowAnswer}
 use Rattle.flow.proofs.Orders.{order_ranked, order_low, no_feeds}
@@ -55,7 +55,7 @@ links_one {inputs} {nodes} {fanins = fanins} {order = order} drawing {links₀} 
     by_column next prev (suc (suc (suc (suc (suc c))))) low = absurd (omega arith)
 
 -- one reply, and one content of each buffer; of the links where the paths are the same
-pub record OneAnswer (inputs nodes : ℕ) (r q : Flow) (links' cut' links'' cut'' : List ℕ) : Type 0 where
+pub record OneAnswer (inputs nodes : ℕ) (r q : Option CutSize) (links' cut' links'' cut'' : List ℕ) : Type 0 where
   pub links_same : SameLinks inputs nodes links' links''
   pub reply : r ≡ q
   pub cut_one : cut' ≡ cut''
@@ -75,7 +75,7 @@ module _ {inputs nodes k : ℕ} {fanins order roles links cut : List ℕ} (asked
       evidence_is_tight asked.marks.never_falls asked.drawing.drawn.bounded asked.marks.gate.below evidence list
       (cut_stops least.cut) least.outside
 
-  pub answer_is_one : {r q : Flow} {links' cut' links'' cut'' : List ℕ} → FlowAnswer inputs nodes k fanins roles links cut r links' cut' →
+  pub answer_is_one : {r q : Option CutSize} {links' cut' links'' cut'' : List ℕ} → FlowAnswer inputs nodes k fanins roles links cut r links' cut' →
       FlowAnswer inputs nodes k fanins roles links cut q links'' cut'' → OneAnswer inputs nodes r q links' cut' links'' cut''
   answer_is_one (FlowAnswer.paths e _ stand left same) (FlowAnswer.paths f _ stand' left' same') =
       record {
@@ -88,7 +88,7 @@ module _ {inputs nodes k : ℕ} {fanins order roles links cut : List ℕ} (asked
       let sizes : size ≡ size' = λ j. record { leaves = (sym size_is ∙ ap length alike ∙ size-is') j } in
       record {
         links_same = λ _. clear ∙ sym clear';
-        reply = e ∙ ap Cut sizes ∙ sym f;
+        reply = e ∙ ap Some sizes ∙ sym f;
         cut_one = same ∙ ap (sets cut 0) alike ∙ sym same';
       }
   answer_is_one (FlowAnswer.paths e evidence _ _ _) (FlowAnswer.cut size list f _ least _ _) =

@@ -11,13 +11,27 @@ use Rattle.storage.specs.Entries.{at}
 use Rattle.storage.specs.Lists.{size_at, entry_at, list_at}
 use Rattle.storage.proofs.InLists.{list_member, list_place}
 use Rattle.storage.specs.Drawings.{Fed}
-use Rattle.flow.specs.Links.{link_to}
+use Rattle.storage.specs.declared.Node.{Node}
+use Rattle.flow.specs.declared.cells.Link.{Link}
+use Rattle.flow.specs.declared.cells.Link.TheVariants.{Nowhere, Edge, To}
+use Rattle.flow.specs.Links.{link_to, code_of}
 use Rattle.flow.specs.Turns.{FaninFound, NoWayIn, NoWayOut, Entered, Left}
 
 -- a test for 0
 nonzero : (x : ℕ) → ((x ≡ 0) × (not (eqb x 0) ≡ false)) ⊎ ((1 ≤ x) × (not (eqb x 0) ≡ true))
 nonzero zero = inl (refl, refl)
 nonzero (suc x) = inr (omega arith, ap not (ne_eqb (suc x) 0 (λ e. omega arith)))
+
+-- a link that is no way, and one that leads to no node
+pub some_link : (link : Link) → (link ≡ Nowhere → ⊥) → 1 ≤ code_of link
+some_link Nowhere some = absurd (some refl)
+some_link Edge some = omega arith
+some_link (To v) some = omega arith
+
+pub no_node : (link : Link) → ((v : Node) → link ≡ To v → ⊥) → code_of link < 2
+no_node Nowhere none = omega arith
+no_node Edge none = omega arith
+no_node (To v) none = absurd (none v refl)
 
 -- Out
 

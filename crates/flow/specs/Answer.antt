@@ -1,5 +1,5 @@
 -- The promise of the flow: K + 1 paths that are evidence, or the mapper's cut.
-use Rattle.std.specs.Prelude.{ℕ, ◌*◌, ◌≤◌, ◌≡◌, List, length, replicate}
+use Rattle.std.specs.Prelude.{ℕ, ◌*◌, ◌≤◌, ◌≡◌, Option, None, Some, List, length, replicate}
 use Rattle.std.proofs.lemmas.List.Edits.{sets}
 use Rattle.theory.specs.paper.Net.{Gate}
 use Rattle.theory.specs.paper.Evidence.{Evidence, LeastCut}
@@ -10,8 +10,6 @@ use Rattle.storage.specs.Entries.{cleared, Beyond}
 use Rattle.storage.specs.Marks.{Marks}
 use Rattle.storage.specs.Roles.{area_in, ends_in}
 use Rattle.area.specs.Area.{InArea, IsEnd}
-use Rattle.flow.specs.declared.Flow.{Flow}
-use Rattle.flow.specs.declared.Flow.TheVariants.{Paths, Cut}
 use Rattle.flow.specs.Links.{ins_in, outs_in, parent_in}
 use Rattle.flow.specs.Paths.{paths_in, LinksIn}
 
@@ -39,13 +37,13 @@ pub record FlowLeft (nodes : ℕ) (links links' : List ℕ) : Type 0 where
   pub parent : parent_in nodes links' ≡ replicate nodes 0
   pub rest : Beyond (5 * nodes) links links'
 
--- *Paths*: evidence stands in the links, and nothing else does. *Cut*: the mapper's cut stands in the first entries of `cut`, and the links are cleared. All else
+-- *None*: evidence stands in the links, and nothing else does. *Some*: the mapper's cut stands in the first entries of `cut`, and the links are cleared. All else
 -- that was lent is as before.
-pub data FlowAnswer (inputs nodes k : ℕ) (fanins roles links cut : List ℕ) (r : Flow) (links' cut' : List ℕ) : Type 0 where
-  paths : r ≡ Paths →
+pub data FlowAnswer (inputs nodes k : ℕ) (fanins roles links cut : List ℕ) (r : Option CutSize) (links' cut' : List ℕ) : Type 0 where
+  paths : r ≡ None →
       ((lab : ℕ → ℕ) (t : ℕ) → AreaOf inputs nodes fanins roles lab t → Evidence (net_in inputs nodes fanins) k lab t (paths_in inputs nodes links')) →
       LinksIn (net_in inputs nodes fanins) nodes links' → FlowLeft nodes links links' → cut' ≡ cut →
       FlowAnswer inputs nodes k fanins roles links cut r links' cut'
-  cut : (size : CutSize) (list : List ℕ) → r ≡ Cut size → length list ≡ size.leaves →
+  cut : (size : CutSize) (list : List ℕ) → r ≡ Some size → length list ≡ size.leaves →
       ((lab : ℕ → ℕ) (t : ℕ) → AreaOf inputs nodes fanins roles lab t → LeastCut (net_in inputs nodes fanins) k lab t list) →
       links' ≡ cleared (5 * nodes) links → cut' ≡ sets cut 0 list → FlowAnswer inputs nodes k fanins roles links cut r links' cut'

@@ -1,7 +1,19 @@
 -- The links of a flow in one array: five columns of `nodes` places. `next` and `prev` say where the paths lead; `ins`, `outs` and `parent` are
 -- the search's: by which number it found a node's in-state and its out-state, 0 for not at all, and from where it came to the in-state.
-use Rattle.std.specs.Prelude.{ℕ, suc, List}
+use Rattle.std.specs.Prelude.{ℕ, suc, Option, None, Some, List}
+use Rattle.storage.specs.declared.Node.{Node}
+use Rattle.flow.specs.declared.cells.Column.{Column}
+use Rattle.flow.specs.declared.cells.Column.TheVariants.{Next, Prev, Ins, Outs, Parent}
+use Rattle.flow.specs.declared.cells.Link.{Link}
+use Rattle.flow.specs.declared.cells.Link.TheVariants.{Nowhere, Edge, To}
 use Rattle.storage.specs.Columns.{column}
+
+abbrev pub place : Column → ℕ
+place Next = 0
+place Prev = 1
+place Ins = 2
+place Outs = 3
+place Parent = 4
 
 abbrev pub next_in : (nodes : ℕ) (links : List ℕ) → List ℕ
 next_in nodes links = column nodes 0 links
@@ -27,3 +39,13 @@ edge_of_flow = 1
 
 abbrev pub link_to : ℕ → ℕ
 link_to v = suc (suc v)
+
+-- the number that stands for a link, and for one to a node that was looked for
+abbrev pub code_of : Link → ℕ
+code_of Nowhere = no_link
+code_of Edge = edge_of_flow
+code_of (To v) = link_to v.id
+
+abbrev pub code_of_found : Option Node → ℕ
+code_of_found None = no_link
+code_of_found (Some v) = link_to v.id

@@ -1,9 +1,7 @@
 -- What the reader of a path promises.
-use Rattle.std.specs.Prelude.{ℕ, ◌*◌, ◌≤◌, ◌<◌, ◌≡◌, List, [], length, get_or}
+use Rattle.std.specs.Prelude.{ℕ, ◌*◌, ◌≤◌, ◌<◌, ◌≡◌, Option, None, Some, List, [], length, get_or}
 use Rattle.std.proofs.lemmas.List.Edits.{sets}
 use Rattle.storage.specs.declared.Node.{Node}
-use Rattle.flow.specs.declared.reading.Start.{Start}
-use Rattle.flow.specs.declared.reading.Start.TheVariants.{At, Missing}
 use Rattle.flow.specs.Paths.{starts_in, paths_in}
 
 -- Links that have room for the drawing's nodes.
@@ -13,10 +11,10 @@ pub record ReadAsked (inputs nodes : ℕ) (links : List ℕ) : Type 0 where
   pub links_long : 5 * nodes ≤ length links
 
 -- the i-th of the inputs at which paths start, if there are so many
-pub data StartRead (inputs nodes : ℕ) (links : List ℕ) (i : ℕ) (r : Start) : Type 0 where
-  starts : (v : Node) → r ≡ At v → i < length (starts_in inputs nodes links) → get_or (starts_in inputs nodes links) i 0 ≡ v.id →
+pub data StartRead (inputs nodes : ℕ) (links : List ℕ) (i : ℕ) (r : Option Node) : Type 0 where
+  starts : (v : Node) → r ≡ Some v → i < length (starts_in inputs nodes links) → get_or (starts_in inputs nodes links) i 0 ≡ v.id →
       StartRead inputs nodes links i r
-  missing : r ≡ Missing → length (starts_in inputs nodes links) ≤ i → StartRead inputs nodes links i r
+  missing : r ≡ None → length (starts_in inputs nodes links) ≤ i → StartRead inputs nodes links i r
 
 -- The ids stand at the front of the third column, which the paths leave free, and r is their number; all else is as before.
 pub record Listed (ids : List ℕ) (nodes : ℕ) (links : List ℕ) (r : ℕ) (links' : List ℕ) : Type 0 where

@@ -1,9 +1,7 @@
 -- What the rounds ask and leave, and how leaves are written.
-use Rattle.std.specs.Prelude.{ℕ, suc, ◌*◌, ◌≤◌, ◌<◌, ◌≡◌, Bool, true, false, List, length, set}
+use Rattle.std.specs.Prelude.{ℕ, suc, ◌*◌, ◌≤◌, ◌<◌, ◌≡◌, Bool, true, false, Option, None, Some, List, length, set}
 use Rattle.storage.specs.declared.CutSize.{CutSize}
 use Rattle.storage.specs.Entries.{at}
-use Rattle.flow.specs.declared.rounds.Outcome.{Outcome}
-use Rattle.flow.specs.declared.rounds.Outcome.TheVariants.{Many, Full}
 use Rattle.flow.specs.Numbers.{those}
 use Rattle.flow.specs.Links.{ins_in, outs_in}
 use Rattle.flow.specs.Flow.{is_leaf}
@@ -17,9 +15,9 @@ pub record RunAsked (inputs nodes k : ℕ) (fanins order roles links : List ℕ)
   pub long : 5 * nodes ≤ length links
 
 -- K + 1 paths were found, or the flow is full with fewer, and all is settled.
-pub data Ran (inputs nodes k : ℕ) (fanins roles : List ℕ) (r : Outcome) (links : List ℕ) : Type 0 where
-  many : r ≡ Many → FlowIn inputs nodes fanins roles links (suc k) → Ran inputs nodes k fanins roles r links
-  full : (size : CutSize) (last : ℕ) → r ≡ Full size → size.leaves ≤ k → FlowIn inputs nodes fanins roles links size.leaves →
+pub data Ran (inputs nodes k : ℕ) (fanins roles : List ℕ) (r : Option CutSize) (links : List ℕ) : Type 0 where
+  many : r ≡ None → FlowIn inputs nodes fanins roles links (suc k) → Ran inputs nodes k fanins roles r links
+  full : (size : CutSize) (last : ℕ) → r ≡ Some size → size.leaves ≤ k → FlowIn inputs nodes fanins roles links size.leaves →
       Searched inputs nodes fanins roles links last → AllSettled inputs nodes fanins roles links → Ran inputs nodes k fanins roles r links
 
 -- whether v is one of the leaves that a search without an end leaves, and all of them

@@ -1,13 +1,11 @@
 -- What a sweep and a whole search leave.
-use Rattle.std.specs.Prelude.{ℕ, ◌*◌, ◌≤◌, ◌<◌, ◌≡◌, Bool, true, false, List, length}
+use Rattle.std.specs.Prelude.{ℕ, ◌*◌, ◌≤◌, ◌<◌, ◌≡◌, Bool, true, false, Option, None, Some, List, length}
 use Rattle.storage.specs.declared.Node.{Node}
 use Rattle.storage.specs.Drawings.{net_in, Ordered}
 use Rattle.storage.specs.Entries.{at}
 use Rattle.storage.specs.Roles.{area_in, ends_in}
-use Rattle.flow.specs.declared.searching.Swept.{Swept}
-use Rattle.flow.specs.declared.searching.Swept.TheVariants.{Reached, UpTo}
-use Rattle.flow.specs.declared.searching.Sought.{Sought}
-use Rattle.flow.specs.declared.searching.Sought.TheVariants.{End, Nothing}
+use Rattle.std.specs.declared.ops.ControlFlow.{ControlFlow}
+use Rattle.std.specs.declared.ops.ControlFlow.TheVariants.{Break, Continue}
 use Rattle.flow.specs.Links.{next_in, ins_in, outs_in, link_to}
 use Rattle.flow.specs.Flow.{Settled}
 use Rattle.flow.specs.Turns.{Ground, Searched}
@@ -52,9 +50,9 @@ pub record EndFound (inputs nodes : ℕ) (fanins roles links : List ℕ) (v : �
   pub reached : 1 ≤ at (outs_in nodes links) v
 
 -- A sweep reached an end, or went all along; if it gave no number then, all is settled.
-pub data SweptSo (inputs nodes : ℕ) (fanins roles : List ℕ) (number : ℕ) (r : Swept) (links : List ℕ) : Type 0 where
-  reached : (v : Node) → r ≡ Reached v → EndFound inputs nodes fanins roles links v.id → SweptSo inputs nodes fanins roles number r links
-  up_to : (last : ℕ) → r ≡ UpTo last → Searched inputs nodes fanins roles links last → number ≤ last →
+pub data SweptSo (inputs nodes : ℕ) (fanins roles : List ℕ) (number : ℕ) (r : ControlFlow Node ℕ) (links : List ℕ) : Type 0 where
+  reached : (v : Node) → r ≡ Break v → EndFound inputs nodes fanins roles links v.id → SweptSo inputs nodes fanins roles number r links
+  up_to : (last : ℕ) → r ≡ Continue last → Searched inputs nodes fanins roles links last → number ≤ last →
       (last ≡ number → AllSettled inputs nodes fanins roles links) → SweptSo inputs nodes fanins roles number r links
 
 -- What a search starts from, and how it ends: at an end, or with all settled.
@@ -63,7 +61,7 @@ pub record SearchAsked (inputs nodes : ℕ) (fanins order roles links : List ℕ
   pub long : 5 * nodes ≤ length links
   pub leads : (v g : ℕ) → at (next_in nodes links) v ≡ link_to g → g < nodes
 
-pub data SoughtSo (inputs nodes : ℕ) (fanins roles : List ℕ) (r : Sought) (links : List ℕ) : Type 0 where
-  ended : (v : Node) → r ≡ End v → EndFound inputs nodes fanins roles links v.id → SoughtSo inputs nodes fanins roles r links
-  nothing : (last : ℕ) → r ≡ Nothing → Searched inputs nodes fanins roles links last → AllSettled inputs nodes fanins roles links →
+pub data SoughtSo (inputs nodes : ℕ) (fanins roles : List ℕ) (r : Option Node) (links : List ℕ) : Type 0 where
+  ended : (v : Node) → r ≡ Some v → EndFound inputs nodes fanins roles links v.id → SoughtSo inputs nodes fanins roles r links
+  nothing : (last : ℕ) → r ≡ None → Searched inputs nodes fanins roles links last → AllSettled inputs nodes fanins roles links →
       SoughtSo inputs nodes fanins roles r links

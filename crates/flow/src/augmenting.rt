@@ -3,8 +3,8 @@ ghost use Rattle.std.specs.Prelude.{◌*◌};
 ghost use Rattle.storage.specs.Entries.{Beyond};
 ghost use Rattle.flow.specs.Augments.{FreeAsked, FreedIn, StepAsked, SteppedIn, RoundAsked, RoundDone};
 
-use crate::cells::{EDGE_OF_FLOW, NEXT, NO_LINK, PARENT, PREV, at, link_to, node_of, put};
-use crate::searching::{Sought, search};
+use crate::cells::{Column, Link, link_at, put_link};
+use crate::searching::search;
 use storage::{Node, Numbers};
 
 // Sends v to the sink. The answer starts at the source then: v itself, where it was unused, or the node that it fed.
@@ -12,15 +12,13 @@ fn free(nodes: usize, links: &mut [u16], v: Node) -> Node
     requires { FreeAsked nodes links.old v.id }
     ensures { FreedIn nodes links.old v.id result.id links.new }
 {
-    let to = at(links, nodes, NEXT, v);
-    put(links, nodes, NEXT, v, EDGE_OF_FLOW);
-    if to == NO_LINK {
-        put(links, nodes, PREV, v, EDGE_OF_FLOW);
-        return v;
-    }
-    let g = node_of(to);
-    put(links, nodes, PREV, g, EDGE_OF_FLOW);
-    g
+    let start = match link_at(links, nodes, Column::Next, v) {
+        Link::To(g) => g,
+        _ => v,
+    };
+    put_link(links, nodes, Column::Next, v, Link::Edge);
+    put_link(links, nodes, Column::Prev, start, Link::Edge);
+    start
 }
 
 // The loose node was reached from v's out-state: v is freed and feeds it, or drops out where v is the loose node itself.
@@ -30,12 +28,12 @@ fn step_back(nodes: usize, links: &mut [u16], loose: Node, v: Node) -> Node
 {
     let freed = free(nodes, links, v);
     if v.id == loose.id {
-        put(links, nodes, NEXT, loose, NO_LINK);
-        put(links, nodes, PREV, loose, NO_LINK);
+        put_link(links, nodes, Column::Next, loose, Link::Nowhere);
+        put_link(links, nodes, Column::Prev, loose, Link::Nowhere);
         return freed;
     }
-    put(links, nodes, NEXT, v, link_to(loose));
-    put(links, nodes, PREV, loose, link_to(v));
+    put_link(links, nodes, Column::Next, v, Link::To(loose));
+    put_link(links, nodes, Column::Prev, loose, Link::To(v));
     freed
 }
 
@@ -52,14 +50,12 @@ pub fn add_path(
     ensures beyond { Beyond (5 * numbers.nodes) links.old links.new }
 {
     let sought = search(numbers, fanins, order, roles, links);
-    let Sought::End(end) = sought else {
+    let Some(end) = sought else {
         return false;
     };
     let mut loose = free(numbers.nodes, links, end);
-    let mut from = at(links, numbers.nodes, PARENT, loose);
-    while from != EDGE_OF_FLOW {
-        loose = step_back(numbers.nodes, links, loose, node_of(from));
-        from = at(links, numbers.nodes, PARENT, loose);
+    while let Link::To(v) = link_at(links, numbers.nodes, Column::Parent, loose) {
+        loose = step_back(numbers.nodes, links, loose, v);
     }
     true
 }

@@ -10,22 +10,13 @@ mod searching;
 ghost use Rattle.flow.specs.Reads.{ReadAsked, PathRead};
 ghost use Rattle.flow.specs.Answer.{FlowAsked, FlowAnswer};
 
-use crate::cells::INS;
-use crate::reading::Start;
-use crate::rounds::Outcome;
+use crate::cells::Column;
 use storage::{CutSize, Numbers, fill};
 
 // How many columns the links have.
 const COLUMNS: usize = 5;
 
-// What the flow shows: that no cut lies outside D, by K + 1 paths, or the mapper's cut, with the number of its leaves.
-#[derive(Clone, Copy)]
-pub enum Flow {
-    Paths,
-    Cut(CutSize),
-}
-
-// Decides whether a cut of the gate lies outside D. `roles` mark the nodes behind the gate outside D and those of them that feed D; `links` has
+// Finds the mapper's cut outside D, and answers how many leaves it has; or K + 1 paths, which show that no cut lies outside D. `roles` mark the nodes behind the gate outside D and those of them that feed D; `links` has
 // five places for each node, and `cut` has room for six leaves.
 pub fn find(
     numbers: Numbers,
@@ -34,7 +25,7 @@ pub fn find(
     roles: &[u8],
     links: &mut [u16],
     cut: &mut [u16],
-) -> Flow
+) -> Option<CutSize>
     requires { FlowAsked numbers.inputs numbers.nodes numbers.k.leaves fanins.now order.now roles.now links.old cut.old }
     ensures { FlowAnswer numbers.inputs numbers.nodes numbers.k.leaves fanins.now roles.now
         links.old cut.old result links.new cut.new }
@@ -42,13 +33,13 @@ pub fn find(
     let nodes = numbers.nodes;
     let gates = nodes - numbers.inputs;
     let outcome = rounds::run(numbers, fanins, &order[..gates], &roles[..nodes], links);
-    let Outcome::Full(size) = outcome else {
-        cells::clear(links, nodes, INS, 3);
-        return Flow::Paths;
+    let Some(size) = outcome else {
+        cells::clear(links, nodes, Column::Ins, 3);
+        return None;
     };
     rounds::write_leaves(nodes, links, cut);
     fill(links, COLUMNS * nodes, 0);
-    Flow::Cut(size)
+    Some(size)
 }
 
 // Reads the i-th of the paths that stand in the links: writes its ids in order to the front of the third column, which is free then, and answers how
@@ -59,7 +50,7 @@ pub fn read_path(numbers: Numbers, links: &mut [u16], i: usize) -> usize
 {
     let nodes = numbers.nodes;
     let start = reading::path_start(links, numbers.inputs, nodes, i);
-    let Start::At(first) = start else {
+    let Some(first) = start else {
         return 0;
     };
     reading::write_path(links, nodes, first)

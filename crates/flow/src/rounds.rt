@@ -5,39 +5,30 @@ ghost use Rattle.storage.specs.Entries.{Beyond};
 ghost use Rattle.flow.specs.Rounds.{RunAsked, Ran, leaves_in, LeafPut, LeafAsked, LeavesAsked};
 
 use crate::augmenting::add_path;
-use crate::cells::{INS, NEXT, NOT_FOUND, OUTS, at, clear};
+use crate::cells::{Column, NOT_FOUND, at, clear};
 use storage::lists::put_node;
 use storage::{CutSize, Node, Numbers};
 
-// How the rounds end: with K + 1 paths, or full with fewer: as many as the least cut has leaves.
-#[derive(Clone, Copy)]
-pub enum Outcome {
-    Many,
-    Full(CutSize),
-}
-
+// Full with fewer than K + 1 paths: as many as the least cut has leaves; or none, with K + 1.
 pub fn run(
     numbers: Numbers,
     fanins: &[u16],
     order: &[u16],
     roles: &[u8],
     links: &mut [u16],
-) -> Outcome
+) -> Option<CutSize>
     requires { RunAsked numbers.inputs numbers.nodes numbers.k.leaves fanins.now order.now roles.now links.old }
     ensures ran { Ran numbers.inputs numbers.nodes numbers.k.leaves fanins.now roles.now result links.new }
     ensures beyond { Beyond (5 * numbers.nodes) links.old links.new }
 {
-    clear(links, numbers.nodes, NEXT, 2);
-    let k = numbers.k;
-    let most = k.leaves;
-    let mut number: u8 = 0;
-    while number <= most {
+    clear(links, numbers.nodes, Column::Next, 2);
+    let rounds = numbers.k.leaves + 1;
+    for number in 0..rounds {
         if !add_path(numbers, fanins, order, roles, links) {
-            return Outcome::Full(CutSize { leaves: number });
+            return Some(CutSize { leaves: number });
         }
-        number += 1;
     }
-    Outcome::Many
+    None
 }
 
 // Writes v as the j-th leaf, if it is one; answers how many there are then.
@@ -45,10 +36,10 @@ fn put_leaf(nodes: usize, links: &[u16], v: Node, j: usize, cut: &mut [u16]) -> 
     requires { LeafAsked nodes links.now v.id j cut.old }
     ensures { LeafPut nodes links.now v.id j cut.old result cut.new }
 {
-    if at(links, nodes, INS, v) == NOT_FOUND {
+    if at(links, nodes, Column::Ins, v) == NOT_FOUND {
         return j;
     }
-    if at(links, nodes, OUTS, v) != NOT_FOUND {
+    if at(links, nodes, Column::Outs, v) != NOT_FOUND {
         return j;
     }
     put_node(cut, j, v);
@@ -61,9 +52,7 @@ pub fn write_leaves(nodes: usize, links: &[u16], cut: &mut [u16])
     ensures { cut.new ≡ sets cut.old 0 (leaves_in nodes links.now) }
 {
     let mut j: usize = 0;
-    let mut i: usize = 0;
-    while i < nodes {
+    for i in 0..nodes {
         j = put_leaf(nodes, links, Node { id: i as u16 }, j, cut);
-        i += 1;
     }
 }

@@ -10,7 +10,8 @@ use Rattle.storage.proofs.Drawings.{fed_in}
 use Rattle.theory.specs.paper.Sound.{Ranked}
 use Rattle.theory.proofs.FlowMap.{labels_never_fall}
 use Rattle.area.specs.Area.{label_in, PeakIn}
-use Rattle.flow.specs.declared.Flow.{Flow}
+use Rattle.std.specs.Prelude.{Option}
+use Rattle.storage.specs.declared.CutSize.{CutSize}
 use Rattle.labelling.specs.Evidence.{TrueLabel, EvidenceAsked, EvidenceFound}
 use Rattle.labelling.specs.Probing.{ProbeAsked, Shown, GateProbed}
 use Rattle.labelling.proofs.Owed.{owes_no_cut, by_order}
@@ -49,7 +50,7 @@ module _ {inputs nodes k : ℕ} {fanins order labels : List ℕ} {t : ℕ} {role
         cut_long = room;
       }
 
-  pub evidence_found : {r : Flow} {cut cut' roles links roles' : List ℕ} →
+  pub evidence_found : {r : Option CutSize} {cut cut' roles links roles' : List ℕ} →
       GateProbed inputs nodes k fanins t labels roles₀ links₀ cut r roles links cut' → roles' ≡ cleared nodes roles →
       EvidenceFound inputs nodes k fanins labels t roles₀ links₀ roles' links
   evidence_found {r} {cut} {cut'} {roles} {links} {roles'} probed clear = by_show probed.shown

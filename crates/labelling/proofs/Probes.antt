@@ -8,7 +8,8 @@ use Rattle.storage.specs.Entries.{Beyond}
 use Rattle.storage.proofs.Clears.{cleared_beyond, beyond_then}
 use Rattle.walking.specs.Promises.{WalkRoom, WalkMade}
 use Rattle.area.specs.Area.{label_in, AreaAsked, AreaMarked}
-use Rattle.flow.specs.declared.Flow.{Flow}
+use Rattle.std.specs.Prelude.{Option}
+use Rattle.storage.specs.declared.CutSize.{CutSize}
 use Rattle.flow.specs.Answer.{AreaOf, FlowAsked, FlowAnswer}
 use Rattle.labelling.specs.Probing.{ProbeAsked, Shown, GateProbed}
 
@@ -60,7 +61,7 @@ module _ {inputs nodes k : ℕ} {fanins order : List ℕ} {t p : ℕ} {labels ro
             cut_long = asked.cut_long;
           }
 
-      pub gate_probed : {r : Flow} {links cut : List ℕ} → FlowAnswer inputs nodes k fanins roles links₀ cut₀ r links cut →
+      pub gate_probed : {r : Option CutSize} {links cut : List ℕ} → FlowAnswer inputs nodes k fanins roles links₀ cut₀ r links cut →
           GateProbed inputs nodes k fanins t labels roles₀ links₀ cut₀ r roles links cut
       gate_probed (FlowAnswer.paths e evidence links left same) =
           record {

@@ -6,7 +6,7 @@ use native.Mathlib.Omega.{arith}
 use mathlib.Core.Path.{◌≡◌, sym, ap, subst, ◌∙◌}
 use mathlib.Core.List.{List}
 use lib.ListN.{length, get_or, set, take}
-use lib.Seq.{sets, length-sets, get_or-take}
+use lib.Seq.{sets, length-sets}
 use Rattle.storage.specs.Drawings.{net_in, Ordered, Arranged, Fed}
 use Rattle.storage.specs.declared.CutSize.{CutSize}
 use Rattle.storage.specs.Entries.{cleared}
@@ -16,8 +16,7 @@ use Rattle.storage.proofs.Rests.{rest_of, with_rest, rest_length, rest_kept, res
 use Rattle.storage.proofs.Stores.{sets_headed}
 use Rattle.theory.specs.paper.Evidence.{peak}
 use Rattle.area.specs.Area.{label_in, PeakIn}
-use Rattle.flow.specs.declared.Flow.{Flow}
-use Rattle.flow.specs.declared.Flow.TheVariants.{Paths, Cut}
+use Rattle.std.specs.Prelude.{Option, None, Some}
 use Rattle.labelling.specs.Probing.{Shown, GateProbed, ProbeAsked}
 use Rattle.labelling.specs.Labelling.{Told}
 use Rattle.labelling.specs.Storing.{StoredAbove, AboveRoom, BeginRoom, Begun, Labelling}
@@ -86,7 +85,7 @@ module _ {inputs nodes k : ℕ} {fanins order : List ℕ} {t : ℕ} {labels cuts
           links_used = beyond_same (5 * nodes) links;
         }
 
-    module _ (some : 1 ≤ p) {r : Flow} {roles' links' part : List ℕ}
+    module _ (some : 1 ≤ p) {r : Option CutSize} {roles' links' part : List ℕ}
         (probed : GateProbed inputs nodes k fanins t labels roles links (rest_of cuts (7 * t + 1)) r roles' links' part) where
       -- a cut that is shown stands behind the gate's size
       least_stands : (list : List ℕ) → length list ≤ k → part ≡ sets (rest_of cuts (7 * t + 1)) 0 list →
@@ -105,7 +104,7 @@ module _ {inputs nodes k : ℕ} {fanins order : List ℕ} {t : ℕ} {labels cuts
               ∙ length-sets cuts (7 * t + 1) list
 
       -- paths leave the gate's places alone
-      paths_keep : r ≡ Paths → with_rest cuts (7 * t + 1) part ≡ cuts
+      paths_keep : r ≡ None → with_rest cuts (7 * t + 1) part ≡ cuts
       paths_keep e = by_show probed.shown
         where
           by_show : Shown inputs nodes k fanins t labels links (rest_of cuts (7 * t + 1)) r links' part →
@@ -113,10 +112,10 @@ module _ {inputs nodes k : ℕ} {fanins order : List ℕ} {t : ℕ} {labels cuts
           by_show (Shown.paths _ _ _ _ same) = rest_kept cuts (7 * t + 1) same
           by_show (Shown.least size list f _ _ _) = absurd (let z : ◌≡◌ {A = ℕ} 0 1 = cc in omega arith)
 
-      pub paths_room : r ≡ Paths → AboveRoom fanins t p labels (with_rest cuts (7 * t + 1) part)
+      pub paths_room : r ≡ None → AboveRoom fanins t p labels (with_rest cuts (7 * t + 1) part)
       paths_room e = subst (AboveRoom fanins t p labels) (sym (paths_keep e)) above_room
 
-      pub turn_paths : {labels' cuts' : List ℕ} → r ≡ Paths →
+      pub turn_paths : {labels' cuts' : List ℕ} → r ≡ None →
           StoredAbove fanins t p labels (with_rest cuts (7 * t + 1) part) labels' cuts' →
           TurnTaken inputs nodes k fanins t labels cuts roles links labels' cuts' roles' links'
       turn_paths {labels'} {cuts'} e there = by_show probed.shown
@@ -141,7 +140,7 @@ module _ {inputs nodes k : ℕ} {fanins order : List ℕ} {t : ℕ} {labels cuts
               }
           by_show (Shown.least size list f _ _ _) = absurd (let z : ◌≡◌ {A = ℕ} 0 1 = cc in omega arith)
 
-      pub turn_cut : {size : CutSize} {labels' cuts' : List ℕ} → r ≡ Cut size → labels' ≡ set labels t p →
+      pub turn_cut : {size : CutSize} {labels' cuts' : List ℕ} → r ≡ Some size → labels' ≡ set labels t p →
           cuts' ≡ set (with_rest cuts (7 * t + 1) part) (7 * t) size.leaves →
           TurnTaken inputs nodes k fanins t labels cuts roles links labels' cuts' roles' links'
       turn_cut {size} {labels'} {cuts'} e label_stored size-stored = by_show probed.shown
@@ -212,12 +211,9 @@ module _ {inputs nodes k : ℕ} {fanins order labels cuts roles links : List ℕ
   so_far_here : Labelling (net_in inputs nodes fanins) k (take (nodes - inputs) order) i asked.labels₀ asked.cuts₀ labels' cuts'
   so_far_here = so_far asked along
 
-  same_gate : get_or (take (nodes - inputs) order) i 0 ≡ get_or order i 0
-  same_gate = get_or-take (nodes - inputs) order i 0 inside
-
-  turn_here : TurnAsked inputs nodes k fanins order (get_or (take (nodes - inputs) order) i 0) labels' cuts' roles' links'
+  pub turn_asked : TurnAsked inputs nodes k fanins order (get_or (take (nodes - inputs) order) i 0) labels' cuts' roles' links'
   unfolding net_in
-  turn_here =
+  turn_asked =
       let bounded = asked.drawing.drawn.bounded in
       record {
         drawing = asked.drawing;
@@ -229,16 +225,10 @@ module _ {inputs nodes k : ℕ} {fanins order labels cuts roles links : List ℕ
         links_long = omega (arith, along.links_used.size, asked.links_long);
       }
 
-  pub turn_asked : TurnAsked inputs nodes k fanins order (get_or order i 0) labels' cuts' roles' links'
-  turn_asked = subst (λ (t : ℕ). TurnAsked inputs nodes k fanins order t labels' cuts' roles' links') same_gate turn_here
-
   pub along_more : {labels'' cuts'' roles'' links'' : List ℕ} →
-      TurnTaken inputs nodes k fanins (get_or order i 0) labels' cuts' roles' links' labels'' cuts'' roles'' links'' →
+      TurnTaken inputs nodes k fanins (get_or (take (nodes - inputs) order) i 0) labels' cuts' roles' links' labels'' cuts'' roles'' links'' →
       Along inputs nodes k fanins order (i + 1) labels cuts roles links labels'' cuts'' roles'' links''
-  along_more {labels''} {cuts''} {roles''} {links''} there =
-      let taken =
-      subst (λ (t : ℕ). TurnTaken inputs nodes k fanins t labels' cuts' roles' links' labels'' cuts'' roles'' links'')
-      (sym same_gate) there in
+  along_more taken =
       record {
         labelling = λ labels₀ cuts₀ begun.
             labelling_more asked.drawing.drawn.bounded ordered (by_order asked.drawing) asked.drawing.k_small within

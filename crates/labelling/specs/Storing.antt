@@ -1,6 +1,6 @@
 -- Labels and cuts in arrays: a label a node, and a list of leaves a node.
-use Rattle.std.specs.Prelude.{ℕ, suc, ◌+◌, ◌*◌, ◌≤◌, ◌<◌, ◌≡◌, length, get_or, set}
-use mathlib.Core.List.{List, [], ◌∷◌, ◌++◌, Memᴰ}
+use Rattle.std.specs.Prelude.{ℕ, suc, ◌+◌, ◌*◌, ◌≤◌, ◌<◌, ◌≡◌, Option, None, Some, length, get_or, set}
+use mathlib.Core.List.{List, ◌∷◌, Memᴰ}
 use Rattle.std.proofs.lemmas.List.Edits.{sets}
 use Rattle.storage.specs.declared.Node.{Node}
 use Rattle.storage.specs.Drawings.{net_in}
@@ -10,8 +10,6 @@ use Rattle.theory.specs.paper.Net.{Net, Gate, Input}
 use Rattle.theory.specs.paper.Evidence.{DistinctFanins, MappersCut}
 use Rattle.area.specs.Area.{label_in}
 use Rattle.labelling.specs.Evidence.{TrueLabel}
-use Rattle.labelling.specs.declared.distinct.Least.{Least}
-use Rattle.labelling.specs.declared.distinct.Least.TheVariants.{At, Nothing}
 use Rattle.labelling.specs.Labelling.{LabelledTo}
 
 -- A node's label and its leaves are stored.
@@ -49,13 +47,9 @@ pub record LabellingMade (net : Net) (k : ℕ) (labels₀ cuts₀ labels cuts : 
   pub rest : Rest net.nodes labels₀ cuts₀ labels cuts
 
 -- the least number of a list that is `from` or more
-pub data LeastFrom (l : List ℕ) (from : ℕ) : Least → Type 0 where
-  at : {v : Node} → Memᴰ v.id l → from ≤ v.id → ((u : ℕ) → Memᴰ u l → from ≤ u → v.id ≤ u) → LeastFrom l from (At v)
-  nothing : ((u : ℕ) → Memᴰ u l → from ≤ u → ⊥) → LeastFrom l from Nothing
-
--- Where `best` is the least of a list, r is the least of that list and v.
-abbrev pub Lowered : (best : Least) (from v : ℕ) (r : Least) → Type 0
-Lowered best from v r = (l : List ℕ) → LeastFrom l from best → LeastFrom (l ++ (v ∷ [])) from r
+pub data LeastFrom (l : List ℕ) (from : ℕ) : Option Node → Type 0 where
+  at : {v : Node} → Memᴰ v.id l → from ≤ v.id → ((u : ℕ) → Memᴰ u l → from ≤ u → v.id ≤ u) → LeastFrom l from (Some v)
+  nothing : ((u : ℕ) → Memᴰ u l → from ≤ u → ⊥) → LeastFrom l from None
 
 -- A gate's fanins lie within the array.
 pub record FaninsRoom (fanins : List ℕ) (gate : ℕ) : Type 0 where

@@ -1,7 +1,6 @@
 // A gate's probe: what lies behind it, D and the area, and then the flow.
 ghost use Rattle.labelling.specs.Probing.{ProbeAsked, GateProbed};
 
-use flow::Flow;
 use storage::{CutSize, Label, Node, Numbers};
 
 // `cut` has room for six leaves. The walk has no leaves, so any list will do for it.
@@ -15,7 +14,7 @@ pub fn probe_gate(
     roles: &mut [u8],
     links: &mut [u16],
     cut: &mut [u16],
-) -> Flow
+) -> Option<CutSize>
     requires { ProbeAsked numbers.inputs numbers.nodes numbers.k.leaves fanins.now order.now
         gate.id p.depth labels.now roles.old links.old cut.old }
     ensures { GateProbed numbers.inputs numbers.nodes numbers.k.leaves fanins.now

@@ -4,8 +4,7 @@ ghost use Rattle.labelling.specs.Turning.{TurnAsked, TurnTaken, AlongAsked, Alon
 
 use crate::probing::probe_gate;
 use crate::store_above;
-use flow::Flow;
-use storage::lists::{PLACES, node_at, put_size};
+use storage::lists::{PLACES, put_size};
 use storage::marks::put_label;
 use storage::{Node, Numbers};
 
@@ -44,7 +43,7 @@ fn settle(
         links,
         &mut cuts[at..],
     );
-    let Flow::Cut(size) = shown else {
+    let Some(size) = shown else {
         store_above(fanins, gate, p, labels, cuts);
         return;
     };
@@ -70,10 +69,8 @@ pub fn settle_all(
         links.new }
 {
     let gates = numbers.nodes - numbers.inputs;
-    let mut i = 0;
-    while i < gates {
-        let gate = node_at(order, i);
+    for id in &order[..gates] {
+        let gate = Node { id: *id };
         settle(numbers, fanins, order, gate, labels, cuts, roles, links);
-        i += 1;
     }
 }

@@ -1,25 +1,17 @@
 -- `find` meets its contract: what the rounds left, with the scratch cleared.
 use native.Mathlib.Omega.{arith}
 use Prim.Native.Nat.{◌-◌}
-use mathlib.Core.Path.{sym, ◌∙◌}
+use mathlib.Core.Path.{sym}
 use lib.Seq.{length-take-le}
-use Rattle.flow.proofs.Answered.{gates_span, run_asked, ran_many, ran_full, leaves_asked, answer_paths}
+use Rattle.flow.proofs.Answered.{run_asked, ran_many, ran_full, leaves_asked, answer_paths}
 use Rattle.flow.proofs.Answered.{answer_cut}
 use Rattle.flow.proofs.find.Goals as goal
-
-pub overflow_sub-gates : goal.overflow_sub-gates
-overflow_sub-gates c =
-    gates_span c.requires
 
 pub slice_bounds-run-end : goal.slice_bounds-run-end
 slice_bounds-run-end c =
     let a = c.args in
     let long = c.requires.drawing.order_long in
     sym (length-take-le (a.numbers.nodes - a.numbers.inputs) a.order.now (omega arith))
-
-pub slice_bounds-run-end-2 : goal.slice_bounds-run-end-2
-slice_bounds-run-end-2 c =
-    sym (length-take-le c.args.numbers.nodes c.args.roles.now c.requires.roles_long)
 
 pub run-outcome-requires : goal.run-outcome-requires
 run-outcome-requires c =
@@ -33,10 +25,6 @@ clear-requires c =
       of_five = omega arith;
     }
 
-pub shape_of-links-in_default : goal.shape_of-links-in_default
-shape_of-links-in_default c =
-    c.clear.ensures.rest.size ∙ c.run-outcome.ensures.beyond.size
-
 pub returns-in_default : goal.returns-in_default
 returns-in_default c =
     answer_paths c.requires c.run-outcome.ensures.beyond
@@ -45,19 +33,11 @@ returns-in_default c =
 
 pub write_leaves-requires : goal.write_leaves-requires
 write_leaves-requires c =
-    let full = ran_full c.run-outcome.ensures.ran c.in-Full.is in
+    let full = ran_full c.run-outcome.ensures.ran c.in-Some.is in
     leaves_asked (run_asked c.requires).field full c.requires.drawing.k_small c.requires.cut_long
-
-pub overflow_mul-nodes : goal.overflow_mul-nodes
-overflow_mul-nodes c =
-    omega (arith, c.requires.drawing.small)
-
-pub fill-requires : goal.fill-requires
-fill-requires c =
-    omega (arith, c.requires.links_long, c.run-outcome.ensures.beyond.size)
 
 pub returns : goal.returns
 returns c =
-    let full = ran_full c.run-outcome.ensures.ran c.in-Full.is in
+    let full = ran_full c.run-outcome.ensures.ran c.in-Some.is in
     answer_cut c.requires c.run-outcome.ensures.beyond full c.fill.ensures
     c.write_leaves.ensures

@@ -2,21 +2,14 @@
 use Rattle.flow.proofs.Listing.{path_read, no_path_read}
 use Rattle.flow.proofs.read_path.Goals as goal
 
-pub path_start-start-requires : goal.path_start-start-requires
-path_start-start-requires c = c.requires
-
 pub returns-in_default : goal.returns-in_default
 returns-in_default c =
     let a = c.args in
     no_path_read a.numbers.inputs a.numbers.nodes a.links.now a.i
     c.path_start-start.ensures c.in_default.is
 
-pub write_path-requires : goal.write_path-requires
-write_path-requires c =
-    record { nodes_bound = c.requires.small; nodes_in_bounds = c.requires.links_long }
-
 pub returns : goal.returns
 returns c =
     let a = c.args in
     path_read a.numbers.inputs a.numbers.nodes a.links.now a.i
-    c.path_start-start.ensures c.in-At.is c.write_path.ensures
+    c.path_start-start.ensures c.in-Some.is c.write_path.ensures

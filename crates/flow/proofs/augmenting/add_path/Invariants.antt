@@ -5,8 +5,8 @@ use Rattle.flow.specs.Links.{ins_in}
 use Rattle.flow.proofs.Augmented.{Augmenting}
 use Rattle.flow.proofs.augmenting.add_path.Given as goal
 
-abbrev pub invariant-loop-from : goal.invariant-loop-from
-invariant-loop-from l = Augmenting l.numbers.inputs l.numbers.nodes l.fanins l.roles l.initial.links l.links l.loose.id l.from
+abbrev pub invariant-loop-v : goal.invariant-loop-v
+invariant-loop-v l = Augmenting l.numbers.inputs l.numbers.nodes l.fanins l.roles l.initial.links l.links l.loose.id
 
-abbrev pub decreases-loop-from : goal.decreases-loop-from
-decreases-loop-from l = at (ins_in l.numbers.nodes l.links) l.loose.id
+abbrev pub decreases-loop-v : goal.decreases-loop-v
+decreases-loop-v l = at (ins_in l.numbers.nodes l.links) l.loose.id

@@ -14,11 +14,7 @@ use Rattle.flow.proofs.reading.path_start.Goals as goal
 
 pub loop-v-init : goal.loop-v-init
 unfolding those
-loop-v-init c = (omega arith, refl, omega arith, omega arith)
-
-pub overflow_cast-start : goal.overflow_cast-start
-overflow_cast-start c =
-    omega (arith, c.requires.span, c.requires.small)
+loop-v-init c = (refl, omega arith, omega arith)
 
 pub starts_at-requires : goal.starts_at-requires
 starts_at-requires c =
@@ -35,18 +31,14 @@ overflow_add-more c =
     let a = c.args in
     let few =
     one_at_most (eqb (at (prev_in a.nodes a.links.now) c.loop-v.v) 1) c.starts_at.ensures in
-    omega (arith, few, c.loop-v.invariant.3, c.loop-v-test.true, c.requires.span, c.requires.small)
+    omega (arith, few, c.loop-v.invariant.2, c.loop-v-test.true, c.requires.span, c.requires.small)
 
 pub returns-then-i-more : goal.returns-then-i-more
 returns-then-i-more c =
     let a = c.args in
     let l = c.loop-v.invariant in
-    start_at a.nodes a.links.now c.loop-v.v l.1 c.starts_at.ensures a.inputs
-    a.i _ c.loop-v-test.true refl l.2 c.if-i-more.true
-
-pub overflow_add-v : goal.overflow_add-v
-overflow_add-v c =
-    omega (arith, c.requires.span, c.requires.small)
+    start_at a.nodes a.links.now c.loop-v.v l.0 c.starts_at.ensures a.inputs
+    a.i _ c.loop-v-test.true refl l.1 c.if-i-more.true
 
 pub loop-v-preserved : goal.loop-v-preserved
 loop-v-preserved c =
@@ -54,16 +46,15 @@ loop-v-preserved c =
     let l = c.loop-v.invariant in
     let few = one_at_most (eqb (at (prev_in a.nodes a.links.now) c.loop-v.v) 1)
     c.starts_at.ensures in (
-      omega (arith, c.loop-v-test.true),
-      start_passed a.nodes a.links.now c.loop-v.v l.1 c.starts_at.ensures,
+      start_passed a.nodes a.links.now c.loop-v.v l.0 c.starts_at.ensures,
       omega (arith, c.if-i-more.false),
-      omega (arith, few, l.3),
+      omega (arith, few, l.2),
     )
 
 pub returns : goal.returns
 returns c =
     let a = c.args in
     let l = c.loop-v.invariant in
-    let all : c.loop-v.v ≡ a.inputs = omega (arith, l.0, c.loop-v-test.false) in
+    let all : c.loop-v.v ≡ a.inputs = omega arith in
     StartRead.missing refl
-    (omega (arith, l.1, l.2, ap (λ (m : ℕ). length (starts_in m a.nodes a.links.now)) all))
+    (omega (arith, l.0, l.1, ap (λ (m : ℕ). length (starts_in m a.nodes a.links.now)) all))

@@ -1,10 +1,6 @@
 -- `write_path` meets its contract: what was followed stands in the third column.
-use Prim.Native.Nat.{◌-◌}
 use Rattle.flow.proofs.Listing.{Following}
 use Rattle.flow.proofs.reading.write_path.Given as goal
 
 abbrev pub invariant-loop-j : goal.invariant-loop-j
 invariant-loop-j l = Following l.nodes l.initial.v.id l.initial.links l.links l.v.id l.j
-
-abbrev pub decreases-loop-j : goal.decreases-loop-j
-decreases-loop-j l = l.nodes - l.j

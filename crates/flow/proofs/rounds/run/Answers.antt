@@ -8,10 +8,6 @@ use Rattle.flow.specs.Rounds.{Ran}
 use Rattle.flow.proofs.Rounded.{run_starts, round_asked, round_more, round_full}
 use Rattle.flow.proofs.rounds.run.Goals as goal
 
-pub clear-requires : goal.clear-requires
-clear-requires c =
-    record { small = c.requires.field.ground.small; long = c.requires.long; of_five = omega arith }
-
 pub loop-number-init : goal.loop-number-init
 loop-number-init c =
     run_starts c.requires c.clear.ensures
@@ -36,29 +32,16 @@ returns-then-not-add_path c =
           (beyond_then c.loop-number.invariant.rest c.add_path.ensures.beyond);
     }
 
-pub overflow_add-number : goal.overflow_add-number
-overflow_add-number c =
-    omega (arith, c.loop-number-test.true, c.requires.k_small)
-
-pub loop-number-smaller : goal.loop-number-smaller
-loop-number-smaller c =
-    omega (arith, c.loop-number-test.true)
-
 pub loop-number-preserved : goal.loop-number-preserved
 loop-number-preserved c =
     round_more c.loop-number.invariant c.add_path.ensures.round_done c.add_path.ensures.beyond
     c.if-not-add_path.false (omega (arith, c.loop-number-test.true))
 
-pub shape_of-links : goal.shape_of-links
-shape_of-links c =
-    c.loop-number.invariant.rest.size ∙ c.clear.ensures.rest.size
-
 pub returns : goal.returns
 returns c =
     let a = c.args in
     let n = a.numbers in
-    let all : c.loop-number.number ≡ suc n.k.leaves =
-    omega (arith, c.loop-number.invariant.few, c.loop-number-test.false) in record {
+    let all : c.loop-number.number ≡ suc n.k.leaves = omega arith in record {
       ran = Ran.many refl
           (subst (FlowIn n.inputs n.nodes a.fanins.now a.roles.now c.loop-number.links) all
           c.loop-number.invariant.flow);

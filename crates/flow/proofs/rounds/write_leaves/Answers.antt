@@ -5,17 +5,13 @@ use mathlib.Core.Path.{◌≡◌, ap, ◌∙◌}
 use lib.Seq.{sets}
 use Rattle.flow.specs.Numbers.{those}
 use Rattle.flow.specs.Rounds.{leaf_in}
-use Rattle.flow.proofs.Rounded.{none_written, cut_size, leaf_room, leaf_turn}
+use Rattle.flow.proofs.Rounded.{none_written, leaf_room, leaf_turn}
 use Rattle.flow.proofs.rounds.write_leaves.Goals as goal
 
 pub loop-i-init : goal.loop-i-init
 loop-i-init c =
     none_written c.args.nodes c.args.links.now
     c.args.cut.now
-
-pub overflow_cast-i : goal.overflow_cast-i
-overflow_cast-i c =
-    omega (arith, c.requires.small)
 
 pub put_leaf-j-requires : goal.put_leaf-j-requires
 put_leaf-j-requires c =
@@ -27,20 +23,13 @@ put_leaf-j-requires c =
       room = leaf_room c.loop-i.invariant c.loop-i-test.true p.room;
     }
 
-pub overflow_add-i : goal.overflow_add-i
-overflow_add-i c =
-    omega (arith, c.requires.small)
-
 pub loop-i-preserved : goal.loop-i-preserved
 loop-i-preserved c =
     leaf_turn c.loop-i.invariant c.loop-i-test.true c.put_leaf-j.ensures
-
-pub shape_of-cut : goal.shape_of-cut
-shape_of-cut c = cut_size c.loop-i.invariant
 
 pub returns : goal.returns
 returns c =
     let a = c.args in
     let l = c.loop-i.invariant in
-    let all : c.loop-i.i ≡ a.nodes = omega (arith, l.passed, c.loop-i-test.false) in
+    let all : c.loop-i.i ≡ a.nodes = omega arith in
     l.same ∙ ap (λ (m : ℕ). sets a.cut.now 0 (those (leaf_in a.nodes a.links.now) m)) all

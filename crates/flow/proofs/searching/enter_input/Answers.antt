@@ -1,15 +1,11 @@
 -- `enter_input` meets its contract.
 use native.Mathlib.Omega.{arith}
-use mathlib.Core.Path.{refl}
 use native.Mathlib.Numerals.{add-one}
 use Rattle.flow.specs.Turns.{InputEntered}
 use Rattle.flow.proofs.Columns.{stored_next}
 use Rattle.flow.proofs.searching.enter_input.Goals as goal
 
-pub returns-then-at-ne-NOT_FOUND : goal.returns-then-at-ne-NOT_FOUND
-returns-then-at-ne-NOT_FOUND c = InputEntered.stays refl refl (omega arith)
-
 pub returns : goal.returns
 returns c =
     InputEntered.new _ (add-one c.args.number) (omega arith) (stored_next c.put.ensures)
-    c.put-2.ensures
+    c.put_link.ensures

@@ -1,6 +1,6 @@
 -- `found_fanin` meets its contract: none of the fanins passed was found.
 use native.Mathlib.Omega.{arith}
-use mathlib.Core.Path.{◌≡◌, ap}
+use mathlib.Core.Path.{◌≡◌, refl, ap}
 use borrow.Author.Count.{below_more}
 use Rattle.storage.specs.Entries.{at}
 use Rattle.storage.specs.Lists.{entry_at}
@@ -8,16 +8,6 @@ use Rattle.flow.specs.Links.{outs_in}
 use Rattle.flow.specs.Turns.{FaninFound}
 use Rattle.flow.proofs.Ways.{entry_feeds, entry_known, none_passed}
 use Rattle.flow.proofs.searching.found_fanin.Goals as goal
-
-pub size_at-most-requires : goal.size_at-most-requires
-size_at-most-requires c = omega (arith, c.requires.fed.long)
-
-pub loop-i-init : goal.loop-i-init
-loop-i-init c = (omega arith, λ j low. absurd (omega arith))
-
-pub entry_at-u-requires : goal.entry_at-u-requires
-entry_at-u-requires c =
-    record { i_bound = omega (arith, c.requires.fed.six); id_in_bounds = c.requires.fed.long }
 
 pub at-requires : goal.at-requires
 at-requires c =
@@ -29,36 +19,21 @@ at-requires c =
       node = entry_known p.fed c.loop-i.i (omega arith) c.entry_at-u.ensures;
     }
 
-pub link_to-requires : goal.link_to-requires
-link_to-requires c =
-    let p = c.requires in
-    omega (
-      arith,
-      p.small,
-      entry_known p.fed c.loop-i.i (omega arith) c.entry_at-u.ensures,
-    )
-
 pub returns-then-at-ne-NOT_FOUND : goal.returns-then-at-ne-NOT_FOUND
 returns-then-at-ne-NOT_FOUND c =
     FaninFound.some c.entry_at-u.result.id
     (entry_feeds c.requires.fed c.loop-i.i (omega arith) c.entry_at-u.ensures)
-    c.link_to.ensures (omega (arith, c.at.ensures))
-
-pub overflow_add-i : goal.overflow_add-i
-overflow_add-i c =
-    omega (arith, c.requires.fed.six)
+    refl (omega (arith, c.at.ensures))
 
 pub loop-i-preserved : goal.loop-i-preserved
 loop-i-preserved c =
     let a = c.args in
-    let outs = at (outs_in a.numbers.nodes a.links.now) in (
-      omega arith,
-      below_more (λ j. outs (entry_at a.fanins.now a.v.id j) ≡ 0) c.loop-i.i c.loop-i.invariant.1
-          (omega (arith, c.at.ensures, ap outs c.entry_at-u.ensures)),
-    )
+    let outs = at (outs_in a.numbers.nodes a.links.now) in
+    below_more (λ j. outs (entry_at a.fanins.now a.v.id j) ≡ 0) c.loop-i.i c.loop-i.invariant
+    (omega (arith, c.at.ensures, ap outs c.entry_at-u.ensures))
 
 pub returns : goal.returns
 returns c =
     let a = c.args in
     none_passed c.requires.fed (outs_in a.numbers.nodes a.links.now)
-    (λ j low. c.loop-i.invariant.1 j (omega arith))
+    (λ j low. c.loop-i.invariant j (omega arith))

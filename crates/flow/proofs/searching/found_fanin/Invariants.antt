@@ -1,5 +1,5 @@
 -- `found_fanin` meets its contract: none of the fanins passed was found.
-use Prim.Native.Nat.{ℕ, ◌≤◌, ◌<◌, ◌-◌}
+use Prim.Native.Nat.{ℕ, ◌<◌}
 use mathlib.Core.Path.{◌≡◌}
 use Rattle.storage.specs.Entries.{at}
 use Rattle.storage.specs.Lists.{entry_at}
@@ -7,7 +7,4 @@ use Rattle.flow.specs.Links.{outs_in}
 use Rattle.flow.proofs.searching.found_fanin.Given as goal
 
 abbrev pub invariant-loop-i : goal.invariant-loop-i
-invariant-loop-i l = (l.i ≤ l.most) × ((j : ℕ) → j < l.i → at (outs_in l.nodes l.links) (entry_at l.fanins l.v.id j) ≡ 0)
-
-abbrev pub decreases-loop-i : goal.decreases-loop-i
-decreases-loop-i l = l.most - l.i
+invariant-loop-i l = (j : ℕ) → j < l.i → at (outs_in l.nodes l.links) (entry_at l.fanins l.v.id j) ≡ 0

@@ -1,16 +1,11 @@
 -- `leave` meets its contract.
 use native.Mathlib.Omega.{arith}
-use mathlib.Core.Path.{refl, subst}
-use mathlib.Core.Logic.{inl, inr}
+use mathlib.Core.Path.{subst}
 use native.Mathlib.Numerals.{add-one}
 use Rattle.flow.specs.Links.{next_in, ins_in}
 use Rattle.flow.specs.Turns.{Left, VisitedOut}
 use Rattle.flow.proofs.Columns.{stored_next}
-use Rattle.flow.proofs.Ways.{left_none}
 use Rattle.flow.proofs.searching.leave.Goals as goal
-
-pub returns-then-at-ne-NOT_FOUND : goal.returns-then-at-ne-NOT_FOUND
-returns-then-at-ne-NOT_FOUND c = VisitedOut.stays refl refl (inl (omega arith))
 
 pub returns-then-way_out : goal.returns-then-way_out
 returns-then-way_out c =
@@ -20,6 +15,3 @@ returns-then-way_out c =
     (subst (Left (next_in a.nodes l) (ins_in a.nodes l) a.v.id) c.if-way_out.true
     c.way_out.ensures)
     (stored_next c.put.ensures)
-
-pub returns : goal.returns
-returns c = VisitedOut.stays refl refl (inr (left_none c.way_out.ensures c.if-way_out.false))

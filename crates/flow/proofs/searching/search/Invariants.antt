@@ -5,8 +5,8 @@ use Rattle.flow.specs.Cells.{PathsKept}
 use Rattle.flow.specs.Turns.{Searched}
 use Rattle.flow.proofs.searching.search.Given as goal
 
-abbrev pub invariant-loop-v : goal.invariant-loop-v
-invariant-loop-v l = Searched l.numbers.inputs l.numbers.nodes l.fanins l.roles l.links l.number × PathsKept l.numbers.nodes l.initial.links l.links
+abbrev pub invariant-loop-end : goal.invariant-loop-end
+invariant-loop-end l = Searched l.numbers.inputs l.numbers.nodes l.fanins l.roles l.links l.number × PathsKept l.numbers.nodes l.initial.links l.links
 
-abbrev pub decreases-loop-v : goal.decreases-loop-v
-decreases-loop-v l = 2 * l.numbers.nodes - l.number
+abbrev pub decreases-loop-end : goal.decreases-loop-end
+decreases-loop-end l = 2 * l.numbers.nodes - l.number

@@ -6,13 +6,9 @@ use lib.ListN.{length}
 use Rattle.flow.specs.Sweeps.{SweptSo}
 use Rattle.flow.proofs.Columns.{paths_then}
 use Rattle.flow.proofs.Finding.{visited_input}
-use Rattle.flow.proofs.Sweeping.{sweep_starts, sweep_turn, order_size, gate_above, gate_below}
+use Rattle.flow.proofs.Sweeping.{sweep_turn, order_size, gate_above, gate_below}
 use Rattle.flow.proofs.Sweeping.{end_asked, sweep_settles}
 use Rattle.flow.proofs.searching.sweep.Goals as goal
-
-pub loop-i-init : goal.loop-i-init
-loop-i-init c =
-    sweep_starts c.requires.searched
 
 pub overflow_cast-v : goal.overflow_cast-v
 overflow_cast-v c =
@@ -65,14 +61,6 @@ returns-then-is_reached c =
       paths_kept = paths_then inv.kept visited.kept;
     }
 
-pub overflow_add-i : goal.overflow_add-i
-overflow_add-i c =
-    omega (arith, order_size c.requires.field, c.requires.field.ground.small, c.loop-i-test.true)
-
-pub loop-i-smaller : goal.loop-i-smaller
-loop-i-smaller c =
-    omega (arith, c.loop-i-test.true)
-
 pub loop-i-preserved : goal.loop-i-preserved
 loop-i-preserved c =
     let f = c.requires.field in
@@ -81,46 +69,27 @@ loop-i-preserved c =
     c.visit_input-last.ensures in
     sweep_turn inv refl visited c.is_reached.ensures c.if-is_reached.false
 
-pub overflow_sub-gates : goal.overflow_sub-gates
-overflow_sub-gates c =
-    omega (arith, order_size c.requires.field)
-
-pub loop-j-init : goal.loop-j-init
-loop-j-init c = sweep_starts c.loop-i.invariant.searched
-
-pub node_at-v-requires : goal.node_at-v-requires
-node_at-v-requires c =
-    let f = c.requires.field in
-    let low : c.loop-j.j < length c.args.order.now =
-    omega (arith, order_size f, c.loop-j-test.true) in
-    low
-
 pub visit_gate-last-requires : goal.visit_gate-last-requires
 visit_gate-last-requires c =
     let f = c.requires.field in
-    let low : c.loop-j.j < length c.args.order.now =
-    omega (arith, order_size f, c.loop-j-test.true) in
+    let low : c.loop-id.id-index < length c.args.order.now =
+    omega (arith, order_size f, c.loop-id-test.true) in
     record {
       visit = record {
         ground = f.ground;
-        searched = c.loop-j.invariant.searched;
-        low = rw c.node_at-v.ensures (gate_below f c.loop-j.j low);
+        searched = c.loop-id.invariant.searched;
+        low = gate_below f c.loop-id.id-index low;
       };
-      gate = rw c.node_at-v.ensures (gate_above f c.loop-j.j low);
+      gate = gate_above f c.loop-id.id-index low;
     }
 
-pub is_reached-requires-in-loop-j : goal.is_reached-requires-in-loop-j
-is_reached-requires-in-loop-j c =
+pub is_reached-requires-in-loop-id : goal.is_reached-requires-in-loop-id
+is_reached-requires-in-loop-id c =
     let f = c.requires.field in
-    let low : c.loop-j.j < length c.args.order.now =
-    omega (arith, order_size f, c.loop-j-test.true) in
+    let low : c.loop-id.id-index < length c.args.order.now =
+    omega (arith, order_size f, c.loop-id-test.true) in
     end_asked f c.visit_gate-last.ensures.searched
-    (rw c.node_at-v.ensures (gate_below f c.loop-j.j low))
-
-pub shape_of-links-then-is_reached-2 : goal.shape_of-links-then-is_reached-2
-shape_of-links-then-is_reached-2 c =
-    (paths_then c.loop-i.invariant.kept
-    (paths_then c.loop-j.invariant.kept c.visit_gate-last.ensures.kept)).rest.size
+    (gate_below f c.loop-id.id-index low)
 
 pub returns-then-is_reached-2 : goal.returns-then-is_reached-2
 returns-then-is_reached-2 c =
@@ -129,39 +98,24 @@ returns-then-is_reached-2 c =
           (record {
             last = _;
             searched = c.visit_gate-last.ensures.searched;
-            is_end = c.is_reached-in-loop-j.ensures.is_end c.if-is_reached-2.true;
-            reached = c.is_reached-in-loop-j.ensures.reached c.if-is_reached-2.true;
+            is_end = c.is_reached-in-loop-id.ensures.is_end c.if-is_reached-2.true;
+            reached = c.is_reached-in-loop-id.ensures.reached c.if-is_reached-2.true;
           });
-      paths_kept = paths_then c.loop-i.invariant.kept (paths_then c.loop-j.invariant.kept c.visit_gate-last.ensures.kept);
+      paths_kept = paths_then c.loop-i.invariant.kept (paths_then c.loop-id.invariant.kept c.visit_gate-last.ensures.kept);
     }
 
-pub overflow_add-j : goal.overflow_add-j
-overflow_add-j c =
-    let f = c.requires.field in
-    let low : c.loop-j.j < length c.args.order.now =
-    omega (arith, order_size f, c.loop-j-test.true) in
-    omega (arith, order_size f, f.ground.small, low)
-
-pub loop-j-smaller : goal.loop-j-smaller
-loop-j-smaller c =
-    omega (arith, c.loop-j-test.true)
-
-pub loop-j-preserved : goal.loop-j-preserved
-loop-j-preserved c =
-    sweep_turn c.loop-j.invariant c.node_at-v.ensures c.visit_gate-last.ensures
-    c.is_reached-in-loop-j.ensures c.if-is_reached-2.false
-
-pub shape_of-links : goal.shape_of-links
-shape_of-links c =
-    (paths_then c.loop-i.invariant.kept c.loop-j.invariant.kept).rest.size
+pub loop-id-preserved : goal.loop-id-preserved
+loop-id-preserved c =
+    sweep_turn c.loop-id.invariant refl c.visit_gate-last.ensures
+    c.is_reached-in-loop-id.ensures c.if-is_reached-2.false
 
 pub returns : goal.returns
 returns c =
     let f = c.requires.field in
     let a = c.loop-i.invariant in
-    let b = c.loop-j.invariant in record {
-      swept_so = SweptSo.up_to c.loop-j.last refl b.searched (omega (arith, a.onward, b.onward))
+    let b = c.loop-id.invariant in record {
+      swept_so = SweptSo.up_to c.loop-id.last refl b.searched (omega (arith, a.onward, b.onward))
           (sweep_settles f a (omega (arith, c.loop-i-test.false)) b
-          (omega (arith, order_size f, c.loop-j-test.false)));
+          (omega (arith, order_size f, c.loop-id-test.false)));
       paths_kept = paths_then a.kept b.kept;
     }

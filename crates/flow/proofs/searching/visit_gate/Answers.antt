@@ -1,5 +1,4 @@
 -- `visit_gate` meets its contract: the search's invariant holds on.
-use native.Mathlib.Omega.{arith}
 use Rattle.storage.specs.Entries.{at}
 use Rattle.storage.specs.Roles.{area_in}
 use Rattle.flow.proofs.Ways.{marked, unmarked}
@@ -7,10 +6,6 @@ use Rattle.flow.proofs.Finding.{visit_none, visit_both, visit_in, enter_asked, l
 use mathlib.Core.Path.{ap}
 use mathlib.Core.Bool.{not}
 use Rattle.flow.proofs.searching.visit_gate.Goals as goal
-
-pub is_free-requires : goal.is_free-requires
-is_free-requires c =
-    omega (arith, c.requires.visit.ground.roles_long, c.requires.visit.low)
 
 pub returns-then-not-is_free : goal.returns-then-not-is_free
 returns-then-not-is_free c =

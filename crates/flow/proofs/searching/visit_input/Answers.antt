@@ -10,10 +10,6 @@ use mathlib.Core.Path.{ap}
 use mathlib.Core.Bool.{not}
 use Rattle.flow.proofs.searching.visit_input.Goals as goal
 
-pub is_free-requires : goal.is_free-requires
-is_free-requires c =
-    omega (arith, c.requires.visit.ground.roles_long, c.requires.visit.low)
-
 pub returns-then-not-is_free : goal.returns-then-not-is_free
 returns-then-not-is_free c =
     let a = c.args in

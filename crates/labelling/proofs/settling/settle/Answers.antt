@@ -76,5 +76,5 @@ shape_of-links c =
 pub returns : goal.returns
 returns c =
     turn_cut c.requires c.peak-p.ensures (omega (arith, c.if-p-eq0.false))
-    c.probe_gate-shown.ensures c.in-Cut.is c.put_label.ensures
+    c.probe_gate-shown.ensures c.in-Some.is c.put_label.ensures
     c.put_size.ensures
