@@ -4,7 +4,7 @@ ghost use Rattle.theory.specs.paper.Lists.{greatest};
 ghost use Rattle.covering.specs.Covers.{CoverAsked, CoverMade, is_root, lut_count, GateMarked, GatesFit, GatesMarked, LeavesFit, LeavesMarked, MarksFit, DepthAsked};
 
 use storage::lists::{PLACES, node_at, size_at};
-use storage::marks::{clear, is_marked, label_of, larger};
+use storage::marks::{clear, label_of, larger};
 use storage::{Label, Node, Numbers};
 
 // A gate is marked, an input is not.
@@ -65,7 +65,7 @@ pub fn cover(
     mark_gates(outputs, 0, number, inputs, luts);
     for i in (0..nodes - inputs).rev() {
         let gate = node_at(order, i);
-        if is_marked(luts, gate) {
+        if luts[gate.id as usize] == 1 {
             mark_leaves(cuts, gate, inputs, luts);
         }
     }

@@ -22,8 +22,8 @@ loop-i-init c =
     let pre = c.requires in
     backed_first pre args.luts.now refl c.clear.ensures c.mark_gates.ensures
 
-pub is_marked-requires : goal.is_marked-requires
-is_marked-requires c =
+pub bounds-luts-gate : goal.bounds-luts-gate
+bounds-luts-gate c =
     let a = c.args in
     let p = c.requires in
     let l = c.loop-i in
@@ -40,13 +40,13 @@ mark_leaves-requires c =
     rw (c.node_at-gate.ensures, l.invariant.rest.size, c.mark_gates.ensures.long, same)
     (leaves_fit p (l.i - 1) (omega arith))
 
-pub loop-i-preserved-then-is_marked : goal.loop-i-preserved-then-is_marked
-loop-i-preserved-then-is_marked c =
+pub loop-i-preserved-then-luts-gate-eq1 : goal.loop-i-preserved-then-luts-gate-eq1
+loop-i-preserved-then-luts-gate-eq1 c =
     let pre = c.requires in
     let l = c.loop-i in
     let one : l.i ≡ l.i - 1 + 1 = omega arith in
     backed_root pre (l.i - 1) (omega arith) (rw one at l.invariant)
-    (rw c.node_at-gate.ensures at (c.is_marked.ensures.yes c.if-is_marked.true)) (rw c.node_at-gate.ensures at c.mark_leaves.ensures)
+    (rw c.node_at-gate.ensures at c.if-luts-gate-eq1.true) (rw c.node_at-gate.ensures at c.mark_leaves.ensures)
 
 pub loop-i-preserved : goal.loop-i-preserved
 loop-i-preserved c =
@@ -54,7 +54,7 @@ loop-i-preserved c =
     let l = c.loop-i in
     let one : l.i ≡ l.i - 1 + 1 = omega arith in
     backed_other pre (l.i - 1) (omega arith) (rw one at l.invariant)
-    (rw c.node_at-gate.ensures at (c.is_marked.ensures.no c.if-is_marked.false))
+    (rw c.node_at-gate.ensures at c.if-luts-gate-eq1.false)
 
 pub returns : goal.returns
 returns c =
