@@ -1,7 +1,7 @@
 -- The pass back along the order. What is marked is needed; and a gate whose turn is over has its leaves marked for good, since no later turn
 -- marks it anew: a gate's leaves come before it. So when all have had their turn, what is needed is marked.
 use Prim.Native.Nat.{ℕ, ◌+◌, ◌*◌, ◌-◌, ◌≤◌, ◌<◌}
-use native.Mathlib.Decide.{dec_le, ℕ_discrete}
+use native.Mathlib.Decide.{dec_le}
 use native.Mathlib.Nat.{zero-add}
 use native.Mathlib.Omega.{arith}
 use mathlib.Core.Path.{◌≡◌, sym, subst, ◌∙◌}
@@ -19,12 +19,11 @@ use Rattle.storage.proofs.Drawings.{fanins_in, gate_of_lem, gate_above, gate_bel
 use Rattle.storage.proofs.InLists.{list_member}
 use Rattle.theory.specs.paper.Net.{Gate}
 use Rattle.covering.specs.paper.Needed.{Needed}
-use Rattle.covering.specs.Covers.{CoverAsked, is_root, lut_count, CoverMade, GatesFit, GateAmong, GatesMarked, CutFits, LeavesMarked, MarksFit}
+use Rattle.covering.specs.Covers.{CoverAsked, is_root, lut_count, CoverMade, GatesFit, GateAmong, GatesMarked, LeavesFit, LeavesMarked}
 use Rattle.covering.proofs.Marking.{marked_beyond}
 use Rattle.covering.proofs.Orders.{needed_gate, order_gate, gate_place, order_once, fanin_before}
 
 pub record Backed (inputs nodes : ℕ) (order cuts outputs : List ℕ) (i : ℕ) (before now : List ℕ) : Type 0 where
-  pub passed : i ≤ nodes - inputs
   pub rest : Beyond nodes before now
   pub bits : (v : ℕ) → v < nodes → (get_or now v 0 ≡ 0) ⊎ (get_or now v 0 ≡ 1)
   pub holds : (v : ℕ) → v < nodes → get_or now v 0 ≡ 1 → Needed (net_in inputs nodes cuts) outputs v
@@ -70,14 +69,11 @@ module _ {inputs nodes : ℕ} {order cuts outputs : List ℕ} {number room : ℕ
         rw (fanins_in inputs nodes cuts g low)
         (list_member cuts g (omega (arith, low, asked.chosen.cuts_long)) (asked.chosen.six g gate) i h)
 
-    gate_cut_fits : CutFits cuts g room
-    gate_cut_fits =
+    gate_leaves_fit : LeavesFit cuts g room
+    gate_leaves_fit =
         record {
-          gates = record {
-            inside = omega (arith, low, asked.chosen.cuts_long, asked.chosen.six g gate);
-            nodes = λ i h. omega (arith, asked.chosen.leaf_nodes g gate (entry_at cuts g i) (leaf_member h), asked.luts_long);
-          };
-          luts_long = omega (arith, low, asked.luts_long);
+          inside = omega (arith, low, asked.chosen.cuts_long, asked.chosen.six g gate);
+          nodes = λ i h. omega (arith, asked.chosen.leaf_nodes g gate (entry_at cuts g i) (leaf_member h), asked.luts_long);
         }
 
     among_leaves : {v : ℕ} → GateAmong cuts (7 * g + 1) (size_at cuts g) inputs v → Memᴰ v ((net_in inputs nodes cuts).fanins g)
@@ -92,8 +88,11 @@ module _ {inputs nodes : ℕ} {order cuts outputs : List ℕ} {number room : ℕ
     leaf_gate : {v : ℕ} → GateAmong cuts (7 * g + 1) (size_at cuts g) inputs v → Gate (net_in inputs nodes cuts) v
     leaf_gate {v} a = gate_of_lem inputs nodes cuts a.gate (asked.chosen.leaf_nodes g gate v (among_leaves a))
 
-  pub cut_fits : (i : ℕ) → i < nodes - inputs → CutFits cuts (get_or order i 0) room
-  cut_fits i h = gate_cut_fits (order_gate (nodes - inputs) order order_long asked.chosen.ordered i h)
+  pub gate_low : (i : ℕ) → i < nodes - inputs → get_or order i 0 < nodes
+  gate_low i h = low (order_gate (nodes - inputs) order order_long asked.chosen.ordered i h)
+
+  pub leaves_fit : (i : ℕ) → i < nodes - inputs → LeavesFit cuts (get_or order i 0) room
+  leaves_fit i h = gate_leaves_fit (order_gate (nodes - inputs) order order_long asked.chosen.ordered i h)
 
   -- The pass
 
@@ -101,7 +100,6 @@ module _ {inputs nodes : ℕ} {order cuts outputs : List ℕ} {number room : ℕ
       Backed inputs nodes order cuts (take number outputs) (nodes - inputs) now now
   backed_first before {clean} {now} long e m =
       record {
-        passed = omega arith;
         rest = beyond_same nodes now;
         bits = λ v node. bit_of v node (m.others v);
         holds = λ v node one. need_of v node one (m.others v);
@@ -125,10 +123,9 @@ module _ {inputs nodes : ℕ} {order cuts outputs : List ℕ} {number room : ℕ
     gate_here : Gate (net_in inputs nodes cuts) (get_or order i 0)
     gate_here = order_gate (nodes - inputs) order order_long asked.chosen.ordered i h
 
-    backed_other : (get_or now (get_or order i 0) 0 ≡ 1 → ⊥) → Backed inputs nodes order cuts (take number outputs) i before now
+    pub backed_other : (get_or now (get_or order i 0) 0 ≡ 1 → ⊥) → Backed inputs nodes order cuts (take number outputs) i before now
     backed_other out =
         record {
-          passed = omega arith;
           rest = so_far.rest;
           bits = so_far.bits;
           holds = so_far.holds;
@@ -136,7 +133,7 @@ module _ {inputs nodes : ℕ} {order cuts outputs : List ℕ} {number room : ℕ
           closed = λ j late early one. so_far.closed j (let apart : j ≡ i → ⊥ = λ e. out (subst (λ (n : ℕ). get_or now (get_or order n 0) 0 ≡ 1) e one) in omega arith) early one;
         }
 
-    module _ {next : List ℕ} (root : get_or now (get_or order i 0) 0 ≡ 1) (m : GatesMarked cuts (7 * get_or order i 0 + 1) (size_at cuts (get_or order i 0)) inputs now next) where
+    module _ {next : List ℕ} (root : get_or now (get_or order i 0) 0 ≡ 1) (m : LeavesMarked cuts (get_or order i 0) inputs now next) where
       -- a mark stays
       stays : (v : ℕ) → get_or now v 0 ≡ 1 → get_or next v 0 ≡ 1
       stays v one = by (m.others v)
@@ -154,10 +151,9 @@ module _ {inputs nodes : ℕ} {order cuts outputs : List ℕ} {number room : ℕ
           let same = order_once n order long asked.chosen.ordered k j (omega arith) early e in
           omega arith
 
-      backed_root : Backed inputs nodes order cuts (take number outputs) i before next
+      pub backed_root : Backed inputs nodes order cuts (take number outputs) i before next
       backed_root =
           record {
-            passed = omega arith;
             rest = beyond_then so_far.rest (marked_beyond m (λ v a. asked.chosen.leaf_nodes (get_or order i 0) gate_here v (among_leaves gate_here a)));
             bits = λ v node. bit_of v node (m.others v);
             holds = λ v node one. need_of v node one (m.others v);
@@ -187,13 +183,6 @@ module _ {inputs nodes : ℕ} {order cuts outputs : List ℕ} {number room : ℕ
               m.marked v (leaves_among gate_here (subst (λ (n : ℕ). Memᴰ v ((net_in inputs nodes cuts).fanins (get_or order n 0))) same leaf)
               (gate_above inputs nodes cuts gate))
 
-    pub backed_more : {next : List ℕ} → LeavesMarked cuts (get_or order i 0) inputs now next → Backed inputs nodes order cuts (take number outputs) i before next
-    backed_more {next} m = by (ℕ_discrete (get_or now (get_or order i 0) 0) 1)
-      where
-        by : Dec (get_or now (get_or order i 0) 0 ≡ 1) → Backed inputs nodes order cuts (take number outputs) i before next
-        by (yes root) = backed_root root (m.root root)
-        by (no out) = rw (m.other out) (backed_other out)
-
   -- The end
 
   module _ {before now : List ℕ} (done : Backed inputs nodes order cuts (take number outputs) 0 before now) where
@@ -205,9 +194,6 @@ module _ {inputs nodes : ℕ} {order cuts outputs : List ℕ} {number room : ℕ
 
     marks_needed : Marks nodes (Needed (net_in inputs nodes cuts) (take number outputs)) now
     marks_needed = record { bit = done.bits; holds = done.holds; marked = λ v _ n. needed_marked n }
-
-    pub marks_fit : length before ≡ room → MarksFit now nodes
-    marks_fit e = record { inside = omega (arith, done.rest.size, asked.luts_long); bits = done.bits }
 
     pub cover_made : (entry : List ℕ) {clean : List ℕ} {r : ℕ} → length entry ≡ room → clean ≡ cleared nodes entry → GatesMarked outputs 0 number inputs clean before →
         r ≡ lut_count (is_root nodes now) nodes → CoverMade inputs nodes cuts (take number outputs) entry r now

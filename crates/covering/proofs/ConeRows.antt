@@ -1,6 +1,6 @@
 -- A row of the cone's table. After the leaves have the row's bits and the gates up to t are computed, the values obey the cone: each of its
 -- gates is no leaf and stands at or before t in the order. So t's value is the result at that row of any table that is the cone's.
-use Prim.Native.Nat.{ℕ, ◌+◌, ◌*◌, ◌-◌, ◌%◌, ◌^◌, ◌≤◌, ◌<◌, zero-le}
+use Prim.Native.Nat.{ℕ, ◌+◌, ◌*◌, ◌-◌, ◌%◌, ◌^◌, ◌≤◌, ◌<◌}
 use native.Mathlib.Numerals.{add-one}
 use native.Mathlib.Omega.{arith}
 use mathlib.Core.Path.{◌≡◌, refl, ap, sym, subst, ◌∙◌}
@@ -32,7 +32,6 @@ use Rattle.covering.proofs.Orders.{order_gate, gate_place, order_once, fanin_bef
 -- What the loop over the rows keeps: the table so far is that of any table that is the cone's, and the values are bits outside the leaves.
 pub record RowsMade (inputs nodes : ℕ) (fanins rows : List ℕ) (t : ℕ) (leaves : List ℕ) (size : ℕ) (before : List ℕ) (row table : ℕ) (after : List ℕ) :
     Type 0 where
-  pub passed : row ≤ 2 ^ size
   pub free : (v : ℕ) → v < nodes → (Memᴰ v (take size leaves) → ⊥) → get_or after v 0 < 2
   pub rest : Beyond nodes before after
   pub made : (whole : ℕ) → ConeTable (net_in inputs nodes fanins) (tables_in rows) (take size leaves) t whole → table ≡ table_of row (result_at whole)
@@ -182,7 +181,6 @@ module _ {inputs nodes k : ℕ} {fanins rows order : List ℕ} {t : ℕ} {leaves
   unfolding table_of
   rows_none before long e =
       record {
-        passed = zero-le;
         free = λ v low _. rw e (omega (arith, cleared_low nodes before long v low));
         rest = beyond_same nodes _;
         made = λ whole is. refl;
@@ -198,7 +196,6 @@ module _ {inputs nodes k : ℕ} {fanins rows order : List ℕ} {t : ℕ} {leaves
     unfolding table_of
     rows_more place first below {mid} {after} {next} set swept e =
         record {
-          passed = omega arith;
           free = free_after place row first below values mid after so_far.free set swept;
           rest = beyond_then so_far.rest (beyond_after place row first below values mid after so_far.free set swept);
           made = λ whole is.

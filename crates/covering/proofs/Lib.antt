@@ -1,6 +1,5 @@
 pub mod Stores
 pub mod Leaves
-pub mod Numbers
 pub mod Sweeps
 pub mod Orders
 pub mod ConeRows

@@ -1,84 +1,24 @@
 -- The steps of `cover` and `depth`: marks set one after the other, marks counted, and the greatest label, each one entry at a time.
-use Prim.Native.Nat.{ℕ, max, ◌+◌, ◌≤◌, ◌<◌}
-use native.Mathlib.Decide.{dec_le}
+use Prim.Native.Nat.{ℕ, zero, suc, max, ◌+◌, ◌≤◌, ◌<◌}
 use native.Mathlib.Numerals.{add-one}
 use native.Mathlib.Omega.{arith}
-use mathlib.Core.Path.{◌≡◌, refl, ap, sym, ◌∙◌}
+use mathlib.Core.Path.{◌≡◌, refl, ◌∙◌}
 use mathlib.Core.Logic.{◌⊎◌, inl, inr}
-use mathlib.Core.List.{List, map}
-use lib.ListN.{length, get_or, take, drop, set, length-set}
-use lib.Seq.{drop-cons, drop-length, get_or-take, length-take-le}
+use mathlib.Core.List.{List, [], ◌∷◌, ◌++◌}
+use lib.ListN.{length, get_or, take}
+use lib.Seq.{get_or-take}
 use lib.Dec.{eqb}
+use Rattle.std.specs.Prelude.{◌≢◌, true, false}
+use Rattle.std.proofs.lemmas.Bool.Decides.{eqb_tells}
+use Rattle.std.specs.List.{count_by}
+use Rattle.std.proofs.lemmas.List.Sums.{count_by_more_yes, count_by_more_no}
 use Rattle.storage.specs.Entries.{Beyond}
 use Rattle.storage.proofs.Clears.{drop_same}
 use Rattle.theory.specs.paper.Lists.{greatest}
 use Rattle.theory.specs.paper.Values.{bit}
-use Rattle.covering.specs.Covers.{is_root, lut_count, GateMarked, GatesFit, GateAmong, GatesMarked, MarksFit}
-use Rattle.covering.proofs.Stores.{stored_or_kept}
+use Rattle.covering.specs.Covers.{is_root, lut_count, GateAmong, GatesMarked}
 
 -- Marks
-
-module _ (ids : List ℕ) (at inputs : ℕ) where
-  among_more : {i v : ℕ} → GateAmong ids at i inputs v → GateAmong ids at (i + 1) inputs v
-  among_more a = record { place = a.place; low = omega (arith, a.low); there = a.there; gate = a.gate }
-
-  module _ (before : List ℕ) where
-    pub gates_none : GatesMarked ids at 0 inputs before before
-    gates_none = record { long = refl; marked = λ v a. absurd (omega (arith, a.low)); others = λ v. inl refl }
-
-    module _ (many i : ℕ) (fit : GatesFit ids at many (length before)) (h : i < many) {now : List ℕ} (so_far : GatesMarked ids at i inputs before now) where
-      -- the i-th is an input: nothing is stored
-      gates_input : get_or ids (at + i) 0 < inputs → GatesMarked ids at (i + 1) inputs before now
-      gates_input low =
-          record {
-            long = so_far.long;
-            marked = λ v a. so_far.marked v (earlier v a);
-            others = λ v. kept v (so_far.others v);
-          }
-        where
-          earlier : (v : ℕ) → GateAmong ids at (i + 1) inputs v → GateAmong ids at i inputs v
-          earlier v a =
-              let other : a.place ≡ i → ⊥ = λ e. omega (arith, ap (λ (j : ℕ). get_or ids (at + j) 0) e, a.there, a.gate) in
-              record { place = a.place; low = omega (arith, a.low); there = a.there; gate = a.gate }
-
-          kept : (v : ℕ) → (get_or now v 0 ≡ get_or before v 0) ⊎ GateAmong ids at i inputs v → (get_or now v 0 ≡ get_or before v 0) ⊎ GateAmong ids at (i + 1) inputs v
-          kept v (inl e) = inl e
-          kept v (inr a) = inr (among_more a)
-
-      gates_gate : inputs ≤ get_or ids (at + i) 0 → GatesMarked ids at (i + 1) inputs before (set now (get_or ids (at + i) 0) 1)
-      gates_gate high =
-          record {
-            long = simp length-set so_far.long;
-            marked = λ v a. at_one v a (stored_or_kept now (get_or ids (at + i) 0) 1 v room);
-            others = λ v. at_other v (stored_or_kept now (get_or ids (at + i) 0) 1 v room) (so_far.others v);
-          }
-        where
-          room : get_or ids (at + i) 0 < length now
-          room = omega (arith, fit.nodes i h, so_far.long)
-
-          Either : ℕ → Type 0
-          Either v =
-              ((v ≡ get_or ids (at + i) 0) × (get_or (set now (get_or ids (at + i) 0) 1) v 0 ≡ 1))
-              ⊎ ((v ≡ get_or ids (at + i) 0 → ⊥) × (get_or (set now (get_or ids (at + i) 0) 1) v 0 ≡ get_or now v 0))
-
-          at_one : (v : ℕ) → GateAmong ids at (i + 1) inputs v → Either v → get_or (set now (get_or ids (at + i) 0) 1) v 0 ≡ 1
-          at_one v a (inl (e, one)) = one
-          at_one v a (inr (apart, kept)) =
-              let other : a.place ≡ i → ⊥ = λ e. apart (sym a.there ∙ ap (λ (j : ℕ). get_or ids (at + j) 0) e) in
-              kept ∙ so_far.marked v (record { place = a.place; low = omega (arith, a.low); there = a.there; gate = a.gate })
-
-          at_other : (v : ℕ) → Either v → (get_or now v 0 ≡ get_or before v 0) ⊎ GateAmong ids at i inputs v →
-              (get_or (set now (get_or ids (at + i) 0) 1) v 0 ≡ get_or before v 0) ⊎ GateAmong ids at (i + 1) inputs v
-          at_other v (inl (e, one)) _ = inr (record { place = i; low = omega arith; there = sym e; gate = omega arith })
-          at_other v (inr (apart, kept)) (inl e) = inl (kept ∙ e)
-          at_other v (inr (apart, kept)) (inr a) = inr (among_more a)
-
-      pub gates_more : {next : List ℕ} → GateMarked (get_or ids (at + i) 0) inputs now next → GatesMarked ids at (i + 1) inputs before next
-      gates_more {next} m = by (dec_le inputs (get_or ids (at + i) 0))
-        where
-          by : Dec (inputs ≤ get_or ids (at + i) 0) → GatesMarked ids at (i + 1) inputs before next
-          by (yes high) = rw (m.gate high) (gates_gate high)
-          by (no low) = let less : get_or ids (at + i) 0 < inputs = omega arith in rw (m.input less) (gates_input less)
 
 -- marks of gates below `nodes` leave what lies beyond
 pub marked_beyond : {ids : List ℕ} {at many inputs nodes : ℕ} {before after : List ℕ} → GatesMarked ids at many inputs before after →
@@ -92,44 +32,31 @@ marked_beyond {ids} {at} {many} {inputs} {nodes} {before} {after} m low =
 
 -- Counts
 
-mark_bit : (m : ℕ) → (m ≡ 0) ⊎ (m ≡ 1) → bit (eqb m 1) ≡ m
-mark_bit m (inl e) = rw e
-mark_bit m (inr e) = rw e
-
 module _ (marks : List ℕ) (nodes : ℕ) where
-  pub count_none : 0 ≡ lut_count (is_root nodes marks) 0
-  unfolding lut_count
-  count_none = refl
-
-  pub count_more : (v : ℕ) {total : ℕ} → MarksFit marks nodes → v < nodes → total ≡ lut_count (is_root nodes marks) v → total + get_or marks v 0 ≡ lut_count (is_root nodes marks) (v + 1)
+  roots_below : (n : ℕ) → n ≤ nodes → n ≤ length marks → count_by (λ (m : ℕ). eqb m 1) (take n marks) ≡ lut_count (is_root nodes marks) n
   unfolding lut_count is_root
-  count_more v fit h e =
-      let here : bit (eqb (get_or (take nodes marks) v 0) 1) ≡ get_or marks v 0 = rw (get_or-take nodes marks v 0 h) (mark_bit (get_or marks v 0) (fit.bits v h)) in
-      rw (add-one v, e, here) (omega arith)
-
-  pub mark_small : (v : ℕ) → MarksFit marks nodes → v < nodes → get_or marks v 0 ≤ 1
-  mark_small v fit h = by (fit.bits v h)
+  roots_below zero few long = refl
+  roots_below (suc n) few long = by (roots_below n (omega (arith, few)) (omega (arith, long))) (eqb_tells (get_or marks n 0) 1)
     where
-      by : (get_or marks v 0 ≡ 0) ⊎ (get_or marks v 0 ≡ 1) → get_or marks v 0 ≤ 1
-      by (inl e) = omega arith
-      by (inr e) = omega arith
+      here : is_root nodes marks n ≡ eqb (get_or marks n 0) 1
+      here = rw (get_or-take nodes marks n 0 few)
+
+      by : count_by (λ (m : ℕ). eqb m 1) (take n marks) ≡ lut_count (is_root nodes marks) n →
+          ((eqb (get_or marks n 0) 1 ≡ true) × (get_or marks n 0 ≡ 1)) ⊎ ((eqb (get_or marks n 0) 1 ≡ false) × (get_or marks n 0 ≢ 1)) →
+          count_by (λ (m : ℕ). eqb m 1) (take (suc n) marks) ≡ bit (is_root nodes marks n) + lut_count (is_root nodes marks) n
+      by so_far (inl (root, _)) =
+          let one : bit (is_root nodes marks n) ≡ 1 = rw (here, root) in
+          (rw (add-one n) at (count_by_more_yes (λ (m : ℕ). eqb m 1) marks n 0 long root)) ∙ omega (arith, so_far, one)
+      by so_far (inr (plain, _)) =
+          let none : bit (is_root nodes marks n) ≡ 0 = rw (here, plain) in
+          (rw (add-one n) at (count_by_more_no (λ (m : ℕ). eqb m 1) marks n 0 long plain)) ∙ omega (arith, so_far, none)
+
+  pub roots_counted : nodes ≤ length marks → count_by (λ (m : ℕ). eqb m 1) (take nodes marks) ≡ lut_count (is_root nodes marks) nodes
+  roots_counted long = roots_below nodes (omega arith) long
 
 -- The greatest label
 
-abbrev pub greatest_from : (labels outputs : List ℕ) (number i : ℕ) → ℕ
-greatest_from labels outputs number i = greatest (map (λ v. get_or labels v 0) (drop i (take number outputs)))
-
-module _ (labels outputs : List ℕ) (number : ℕ) (long : number ≤ length outputs) where
-  pub greatest_end : greatest_from labels outputs number number ≡ 0
-  unfolding greatest
-  greatest_end =
-      let none = drop-length (take number outputs) in
-      let none' = rw (length-take-le number outputs long) at none in
-      rw none'
-
-  pub greatest_more : (i : ℕ) → i < number →
-      greatest_from labels outputs number i ≡ max (get_or labels (get_or outputs i 0) 0) (greatest_from labels outputs number (i + 1))
-  unfolding greatest
-  greatest_more i h =
-      let split = drop-cons (take number outputs) i 0 (omega (arith, length-take-le number outputs long)) in
-      rw (add-one i, split, get_or-take number outputs i 0 h)
+pub greatest_push : (l : List ℕ) (v : ℕ) → greatest (l ++ (v ∷ [])) ≡ max (greatest l) v
+unfolding greatest
+greatest_push [] v = omega arith
+greatest_push (x ∷ l) v = rw (greatest_push l v) (omega arith)

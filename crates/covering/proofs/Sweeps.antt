@@ -16,7 +16,7 @@ use Rattle.storage.specs.Lists.{size_at, list_at}
 use Rattle.theory.specs.paper.Values.{bit, row_of, result_at}
 use Rattle.theory.proofs.Rows.{bit_below, result_lowest, row_below}
 use Rattle.theory.proofs.Picks.{map_agree}
-use Rattle.covering.specs.Cones.{value_in, result_in, RowFits, GateFits, GateSettled, SweepFits, Swept, LeavesFit, LeavesSet}
+use Rattle.covering.specs.Cones.{value_in, result_in, GateFits, GateSettled, SweepFits, Swept}
 use Rattle.covering.proofs.Stores.{stored_or_kept}
 
 -- Values
@@ -75,35 +75,6 @@ module _ (ids : List ℕ) (at many : ℕ) (values : List ℕ) (inside : at + man
   pub row_from_small : (i : ℕ) → many ≤ 6 → row_from ids at many values i < 64
   row_from_small i few = row_small (value_in values) (drop i (take many (drop at ids))) (simp length-drop (omega (arith, part_long)))
 
--- Leaves
-
-module _ (leaves : List ℕ) (size row : ℕ) (before : List ℕ) where
-  pub leaves_none : LeavesSet leaves 0 row before before
-  leaves_none = record { long = refl; bits = λ i h. absurd (omega arith); others = λ v _. refl }
-
-  pub leaves_more : (i : ℕ) {after : List ℕ} {b : ℕ} → LeavesFit leaves size (length before) → i < size → b ≡ bit (result_at row i) → LeavesSet leaves i row before after →
-      LeavesSet leaves (i + 1) row before (set after (get_or leaves i 0) (2 + b))
-  leaves_more i {after} {b} fit h same so_far =
-      record {
-        long = simp length-set so_far.long;
-        bits = λ j less. at j less (stored_or_kept after (get_or leaves i 0) (2 + b) (get_or leaves j 0) room);
-        others = λ v free. get_or-set_other after (get_or leaves i 0) v (2 + b) 0 (λ e. free i (omega arith) (sym e)) ∙ so_far.others v (λ j less. free j (omega arith));
-      }
-    where
-      room : get_or leaves i 0 < length after
-      room = omega (arith, fit.nodes i h, so_far.long)
-
-      at : (j : ℕ) → j < i + 1 →
-          ((get_or leaves j 0 ≡ get_or leaves i 0) × (get_or (set after (get_or leaves i 0) (2 + b)) (get_or leaves j 0) 0 ≡ 2 + b))
-          ⊎ ((get_or leaves j 0 ≡ get_or leaves i 0 → ⊥) × (get_or (set after (get_or leaves i 0) (2 + b)) (get_or leaves j 0) 0 ≡ get_or after (get_or leaves j 0) 0)) →
-          get_or (set after (get_or leaves i 0) (2 + b)) (get_or leaves j 0) 0 ≡ 2 + bit (result_at row j)
-      at j less (inl (e, stored)) = stored ∙ ap (2 +◌) same ∙ ap (λ (n : ℕ). 2 + bit (result_at row n)) (sym (by (dec_lt j i)))
-        where
-          by : Dec (j < i) → j ≡ i
-          by (yes l) = absurd (fit.once j i l h e)
-          by (no l) = omega arith
-      at j less (inr (apart, kept)) = kept ∙ so_far.bits j (let other : j ≡ i → ⊥ = λ e. apart (ap (λ (n : ℕ). get_or leaves n 0) e) in omega arith)
-
 -- One gate
 
 module _ (fanins rows : List ℕ) (v : ℕ) (values : List ℕ) where
@@ -116,19 +87,6 @@ module _ (fanins rows : List ℕ) (v : ℕ) (values : List ℕ) where
 
   part_is : gate_part ≡ drop (7 * v) fanins
   part_is = take_all (length fanins - 7 * v) (drop (7 * v) fanins) (simp length-drop (omega arith))
-
-  -- the size that was read is at most 6, so that its remainder by 8, which the code takes, is the size itself
-  pub part_fits : {size room : ℕ} → size ≡ size_at fanins v → RowFits fanins (7 * v + 1) (size_at fanins v) room → RowFits gate_part 1 (size % 8) room
-  part_fits {size} is fit =
-      let same : size % 8 ≡ size_at fanins v = omega (arith, fit.few) in
-      rw (part_is, same)
-      (record {
-        inside = simp length-drop (omega (arith, fit.inside));
-        few = fit.few;
-        nodes = λ i low.
-            let place : 7 * v + (1 + i) ≡ 7 * v + 1 + i = omega arith in
-            rw (get_or-drop (7 * v) fanins (1 + i) 0, place) (fit.nodes i low);
-      })
 
   -- the row of a list whose size was read
   pub gate_row : {row size : ℕ} → row ≡ row_of (map (value_in values) (take (size % 8) (drop 1 gate_part))) → size ≡ size_at fanins v →
@@ -149,22 +107,9 @@ module _ (fanins rows : List ℕ) (v : ℕ) (values : List ℕ) where
         gate = λ _. ap (set values v) (result ∙ ap (λ (n : ℕ). bit (result_at (get_or rows v 0) n)) e);
       }
 
-  pub leaf_kept : 2 ≤ get_or values v 0 → GateSettled fanins rows v values values
-  leaf_kept large = record { leaf = λ _. refl; gate = λ small. absurd (omega arith) }
-
 -- A pass along the order
 
 module _ (fanins rows order : List ℕ) (before : List ℕ) where
-  pub swept_none : Swept fanins rows order 0 before before
-  swept_none =
-      record {
-        long = refl;
-        leaves = λ v _. refl;
-        gates = λ v h. h;
-        others = λ v _. refl;
-        results = λ i h. absurd (omega arith);
-      }
-
   module _ (upto i : ℕ) (fit : SweepFits fanins rows order upto (length before)) (h : i < upto) {now : List ℕ} (so_far : Swept fanins rows order i before now) where
     -- the i-th gate is a leaf: nothing is stored
     swept_leaf : 2 ≤ get_or before (get_or order i 0) 0 → Swept fanins rows order (i + 1) before now

@@ -77,13 +77,12 @@ pub record GatesMarked (ids : List ℕ) (at many inputs : ℕ) (before after : L
   pub marked : (v : ℕ) → GateAmong ids at many inputs v → get_or after v 0 ≡ 1
   pub others : (v : ℕ) → (get_or after v 0 ≡ get_or before v 0) ⊎ GateAmong ids at many inputs v
 
-pub record CutFits (cuts : List ℕ) (v room : ℕ) : Type 0 where
-  pub gates : GatesFit cuts (7 * v + 1) (size_at cuts v) room
-  pub luts_long : v < room
+-- the leaves that `cuts` holds for v, as the gates of `GatesFit` and `GatesMarked`
+abbrev pub LeavesFit : List ℕ → (v room : ℕ) → Type 0
+LeavesFit cuts v room = GatesFit cuts (7 * v + 1) (size_at cuts v) room
 
-pub record LeavesMarked (cuts : List ℕ) (v inputs : ℕ) (before after : List ℕ) : Type 0 where
-  pub root : get_or before v 0 ≡ 1 → GatesMarked cuts (7 * v + 1) (size_at cuts v) inputs before after
-  pub other : (get_or before v 0 ≡ 1 → ⊥) → after ≡ before
+abbrev pub LeavesMarked : List ℕ → (v inputs : ℕ) (before after : List ℕ) → Type 0
+LeavesMarked cuts v inputs before after = GatesMarked cuts (7 * v + 1) (size_at cuts v) inputs before after
 
 pub record MarksFit (marks : List ℕ) (nodes : ℕ) : Type 0 where
   pub inside : nodes ≤ length marks

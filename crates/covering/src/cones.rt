@@ -40,9 +40,7 @@ fn row_of(ids: &[u16], at: usize, many: usize, values: &[u64]) -> u64
     ensures { result ≡ row_of (map (value_in values.now) (take many (drop at ids.now))) }
 {
     let mut row = 0u64;
-    let mut i = many;
-    while 0 < i {
-        i -= 1;
+    for i in (0..many).rev() {
         row = 2 * row + values[ids[at + i] as usize] % 2;
     }
     row
@@ -54,10 +52,8 @@ fn set_leaves(leaves: &[u16], size: CutSize, row: u64, values: &mut [u64])
     ensures { LeavesSet leaves.now size.leaves row values.old values.new }
 {
     let many = size.leaves as usize;
-    let mut i: usize = 0;
-    while i < many {
+    for i in 0..many {
         values[leaves[i] as usize] = 2 + result_at(row, i as u64);
-        i += 1;
     }
 }
 
@@ -67,11 +63,7 @@ fn place_of(order: &[u16], gate: Node) -> usize
     ensures { FirstPlace order.now gate.id result }
 {
     let id = gate.id;
-    let mut i = 0;
-    while order[i] != id {
-        i += 1;
-    }
-    i
+    order.iter().position(|&v| v == id).unwrap()
 }
 
 // The gate's value is stored, unless the gate is a leaf. Its places are lent as a slice of their own, so that they are found once; the
@@ -94,10 +86,8 @@ fn sweep(fanins: &[u16], rows: &[u64], order: &[u16], upto: usize, values: &mut 
     ensures { Swept fanins.now rows.now order.now upto values.old
         values.new }
 {
-    let mut i = 0;
-    while i < upto {
+    for i in 0..upto {
         settle_gate(fanins, rows, node_at(order, i), values);
-        i += 1;
     }
 }
 
@@ -123,12 +113,10 @@ pub fn cone_table(
     let all = rows_of(size);
     let at = gate.id as usize;
     let mut table: u64 = 0;
-    let mut row: u64 = 0;
-    while row < all {
+    for row in 0..all {
         set_leaves(leaves, size, row, values);
         sweep(fanins, rows, order, upto, values);
         table = with_row(table, row, values[at] % 2);
-        row += 1;
     }
     fill(values, numbers.nodes, 0);
     table

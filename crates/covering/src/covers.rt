@@ -1,7 +1,7 @@
 // The LUTs that the outputs need: "the output gates, then their gate leaves, and so back to the inputs; a gate needed twice stands once."
 ghost use Rattle.std.specs.Prelude.{◌≡◌, map, ◌<◌, length, get_or, take};
 ghost use Rattle.theory.specs.paper.Lists.{greatest};
-ghost use Rattle.covering.specs.Covers.{CoverAsked, CoverMade, is_root, lut_count, GateMarked, GatesFit, GatesMarked, CutFits, LeavesMarked, MarksFit, DepthAsked};
+ghost use Rattle.covering.specs.Covers.{CoverAsked, CoverMade, is_root, lut_count, GateMarked, GatesFit, GatesMarked, LeavesFit, LeavesMarked, MarksFit, DepthAsked};
 
 use storage::lists::{PLACES, node_at, size_at};
 use storage::marks::{label_of, larger};
@@ -23,22 +23,18 @@ pub fn mark_gates(ids: &[u16], at: usize, many: usize, inputs: usize, marks: &mu
     requires { GatesFit ids.now at many (length marks.old) }
     ensures { GatesMarked ids.now at many inputs marks.old marks.new }
 {
-    let mut i = 0;
-    while i < many {
-        mark_gate(node_at(ids, at + i), inputs, marks);
-        i += 1;
+    for &id in &ids[at..at + many] {
+        mark_gate(Node { id }, inputs, marks);
     }
 }
 
-// If the gate is a root, its leaves that are gates are marked.
-fn mark_leaves(cuts: &[u16], gate: Node, inputs: usize, luts: &mut [u8])
-    requires { CutFits cuts.now gate.id (length luts.old) }
-    ensures { LeavesMarked cuts.now gate.id inputs luts.old luts.new }
+// The gates among the leaves that `cuts` holds for a node are marked.
+pub fn mark_leaves(cuts: &[u16], node: Node, inputs: usize, marks: &mut [u8])
+    requires { LeavesFit cuts.now node.id (length marks.old) }
+    ensures { LeavesMarked cuts.now node.id inputs marks.old marks.new }
 {
-    let v = gate.id as usize;
-    if luts[v] == 1 {
-        mark_gates(cuts, PLACES * v + 1, size_at(cuts, gate), inputs, luts);
-    }
+    let at = PLACES * (node.id as usize) + 1;
+    mark_gates(cuts, at, size_at(cuts, node), inputs, marks);
 }
 
 // How many of the first `nodes` marks are set.
@@ -46,13 +42,7 @@ fn count_marks(marks: &[u8], nodes: usize) -> usize
     requires { MarksFit marks.now nodes }
     ensures { result ≡ lut_count (is_root nodes marks.now) nodes }
 {
-    let mut total: usize = 0;
-    let mut v = 0;
-    while v < nodes {
-        total += marks[v] as usize;
-        v += 1;
-    }
-    total
+    marks[..nodes].iter().filter(|&&mark| mark == 1).count()
 }
 
 // Marks the roots of the LUTs that the outputs need, where `cuts` holds the cut chosen for each gate, and answers how many LUTs there are.
@@ -73,10 +63,11 @@ pub fn cover(
     let number = numbers.roots;
     fill(luts, nodes, 0);
     mark_gates(outputs, 0, number, inputs, luts);
-    let mut i = nodes - inputs;
-    while 0 < i {
-        i -= 1;
-        mark_leaves(cuts, node_at(order, i), inputs, luts);
+    for i in (0..nodes - inputs).rev() {
+        let gate = node_at(order, i);
+        if luts[gate.id as usize] == 1 {
+            mark_leaves(cuts, gate, inputs, luts);
+        }
     }
     count_marks(luts, nodes)
 }
@@ -87,10 +78,8 @@ pub fn depth(labels: &[u16], outputs: &[u16], number: usize) -> Label
     ensures { result.depth ≡ greatest (map (λ v. get_or labels.now v 0) (take number outputs.now)) }
 {
     let mut best = Label { depth: 0 };
-    let mut i = number;
-    while 0 < i {
-        i -= 1;
-        best = larger(label_of(labels, node_at(outputs, i)), best);
+    for &id in &outputs[..number] {
+        best = larger(best, label_of(labels, Node { id }));
     }
     best
 }

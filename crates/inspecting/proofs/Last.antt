@@ -17,9 +17,10 @@ use Rattle.storage.proofs.Drawings.{drawn_span}
 use Rattle.covering.specs.Covers.{luts_in}
 use Rattle.sheet.specs.paper.Sheet.{Sheet}
 use Rattle.sheet.specs.paper.Rules.{Rule, FirstBroken, Keeps, luts_of, lut_rules, labels_of, gates}
-use Rattle.weighing.specs.declared.luts.LutsJudged.{LutsJudged}
-use Rattle.weighing.specs.declared.luts.LutsJudged.TheVariants as luts-judged
-use Rattle.weighing.specs.declared.whole.WholeJudged.{WholeJudged}
+use Rattle.std.specs.Prelude.{⊤, Result, Ok, Err}
+use Rattle.weighing.specs.declared.luts.LutFault.{LutFault}
+use Rattle.weighing.specs.declared.luts.LutFault.TheVariants as lut-fault
+use Rattle.weighing.specs.declared.whole.WholeFault.{WholeFault}
 use Rattle.weighing.specs.PassThree.{LutsRuled, LutsAsked}
 use Rattle.weighing.specs.PassFour.{WholeRuled, WholeAsked}
 use Rattle.inspecting.specs.declared.Inspection.{Inspection}
@@ -56,20 +57,20 @@ module _ {k inputs nodes number : ℕ} {fanins rows outputs order labels roots c
   outs = take number outputs
 
   -- what pass three says, what pass four says, and what both say
-  abbrev Third : LutsJudged → Type 0
+  abbrev Third : Result ⊤ LutFault → Type 0
   Third r = LutsRuled net (tables_in rows) k (luts_in inputs nodes cuts roots) (tables_in tables) r
 
-  abbrev Fourth : WholeJudged → Type 0
+  abbrev Fourth : Result ⊤ WholeFault → Type 0
   Fourth r = WholeRuled (net_in inputs nodes cuts) outs (luts_in inputs nodes cuts roots) (λ v. get_or labels v 0) head r
 
   abbrev Both : Inspection → Type 0
   Both r = LastRuled k inputs nodes fanins rows outs labels roots cuts tables head r
 
   module _ (sheet : Sheet) (h : SheetHeld inputs nodes labels roots cuts tables head sheet) where
-    ruled_luts : {r : LutsJudged} → Third r → LutsRuled net (tables_in rows) k (luts_of sheet.luts) (tables_in tables) r
+    ruled_luts : {r : Result ⊤ LutFault} → Third r → LutsRuled net (tables_in rows) k (luts_of sheet.luts) (tables_in tables) r
     ruled_luts {r} ruled = subst (λ (l : Luts). LutsRuled net (tables_in rows) k l (tables_in tables) r) (luts_held h.rise h.luts) ruled
 
-    first_luts : {r : LutsJudged} → Third r → FirstBroken (Keeps net (tables_in rows) k outs sheet) (flat_map lut_rules sheet.luts) (found_luts sheet.luts r)
+    first_luts : {r : Result ⊤ LutFault} → Third r → FirstBroken (Keeps net (tables_in rows) k outs sheet) (flat_map lut_rules sheet.luts) (found_luts sheet.luts r)
     first_luts ruled =
         luts_found net (tables_in rows) k outs sheet sheet.luts h.rise (tables_in tables)
         (λ v at. h.luts.table v (listed_below h.rise v at)) (ruled_luts ruled)
@@ -78,7 +79,7 @@ module _ {k inputs nodes number : ℕ} {fanins rows outputs order labels roots c
     unfolding net_in
     labels_same = greatest_same (λ v. get_or labels v 0) (labels_of inputs sheet.lines) outs (λ v m. h.label v (p.laid.output_nodes v m))
 
-    first_whole : {r : WholeJudged} → Fourth r →
+    first_whole : {r : Result ⊤ WholeFault} → Fourth r →
         FirstBroken (Keeps net (tables_in rows) k outs sheet) (map Rule.cover (gates net) ++ (Rule.depth ∷ [])) (found_whole r)
     unfolding net_in
     first_whole {r} ruled =
@@ -90,25 +91,25 @@ module _ {k inputs nodes number : ℕ} {fanins rows outputs order labels roots c
   -- Pass three breaks off
 
   module _ {g : Node} where
-    pub last_cut : Third (luts-judged.Cut g) → Both (inspection.Cut g)
+    pub last_cut : Third (Err (lut-fault.Cut g)) → Both (inspection.Cut g)
     last_cut ruled =
         record {
           right =
               λ sheet h.
               record {
-                found = found_luts sheet.luts (luts-judged.Cut g);
+                found = found_luts sheet.luts (Err (lut-fault.Cut g));
                 first = first_before (map Rule.cover (gates net) ++ (Rule.depth ∷ [])) (first_luts sheet h ruled);
                 reply = refl;
               };
         }
 
-    pub last_function : Third (luts-judged.Function g) → Both (inspection.Function g)
+    pub last_function : Third (Err (lut-fault.Function g)) → Both (inspection.Function g)
     last_function ruled =
         record {
           right =
               λ sheet h.
               record {
-                found = found_luts sheet.luts (luts-judged.Function g);
+                found = found_luts sheet.luts (Err (lut-fault.Function g));
                 first = first_before (map Rule.cover (gates net) ++ (Rule.depth ∷ [])) (first_luts sheet h ruled);
                 reply = refl;
               };
@@ -116,8 +117,8 @@ module _ {k inputs nodes number : ℕ} {fanins rows outputs order labels roots c
 
   -- It does not
 
-  module _ (kept : Third luts-judged.Kept) where
-    cuts_of : {luts : Luts} → LutsRuled net (tables_in rows) k luts (tables_in tables) luts-judged.Kept → (r : ℕ) → luts.root r ≡ true →
+  module _ (kept : Third (Ok tt)) where
+    cuts_of : {luts : Luts} → LutsRuled net (tables_in rows) k luts (tables_in tables) (Ok tt) → (r : ℕ) → luts.root r ≡ true →
         Cut net k r (luts.leaves r)
     cuts_of (LutsRuled.kept each) r at = (each r at).cut
 
@@ -139,6 +140,6 @@ module _ {k inputs nodes number : ℕ} {fanins rows outputs order labels roots c
           depths_long = depths_long;
         }
 
-    pub last_whole : {r : WholeJudged} {reply : Inspection} → reply ≡ reply_of head (found_whole r) → Fourth r → Both reply
+    pub last_whole : {r : Result ⊤ WholeFault} {reply : Inspection} → reply ≡ reply_of head (found_whole r) → Fourth r → Both reply
     last_whole {r} e ruled =
         record { right = λ sheet h. record { found = found_whole r; first = first_after (first_luts sheet h kept) (first_whole sheet h ruled); reply = e } }

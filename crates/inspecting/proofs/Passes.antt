@@ -16,10 +16,11 @@ use Rattle.covering.specs.Covers.{Chosen, luts_in}
 use Rattle.covering.proofs.Orders.{leaves_chosen}
 use Rattle.sheet.specs.paper.Sheet.{Lut, Sheet, Roots, lut_of}
 use Rattle.sheet.specs.paper.Rules.{Rule, Found, FirstBroken, Keeps, DepthKept, CoverKept, is_listed, leaves_listed, table_listed, luts_of, lut_rules, labels_of, gates}
-use Rattle.weighing.specs.declared.luts.LutsJudged.{LutsJudged}
-use Rattle.weighing.specs.declared.luts.LutsJudged.TheVariants as luts-judged
-use Rattle.weighing.specs.declared.whole.WholeJudged.{WholeJudged}
-use Rattle.weighing.specs.declared.whole.WholeJudged.TheVariants as whole-judged
+use Rattle.std.specs.Prelude.{⊤, Result, Ok, Err}
+use Rattle.weighing.specs.declared.luts.LutFault.{LutFault}
+use Rattle.weighing.specs.declared.luts.LutFault.TheVariants as lut-fault
+use Rattle.weighing.specs.declared.whole.WholeFault.{WholeFault}
+use Rattle.weighing.specs.declared.whole.WholeFault.TheVariants as whole-fault
 use Rattle.weighing.specs.Laid.{LutsLaid}
 use Rattle.weighing.specs.PassThree.{LutKept, KeptBelow, LutsRuled}
 use Rattle.weighing.specs.PassFour.{WholeRuled}
@@ -31,10 +32,10 @@ use Rattle.inspecting.proofs.Listed.{unlisted_leaves}
 -- Pass three
 
 -- the rule that a reply names
-abbrev pub found_luts : List Lut → LutsJudged → Found
-found_luts luts luts-judged.Kept = Found.none
-found_luts luts (luts-judged.Cut g) = Found.broken (Rule.cut g.id (leaves_listed luts g.id))
-found_luts luts (luts-judged.Function g) = Found.broken (Rule.function (lut_of g.id (leaves_listed luts g.id) (table_listed luts g.id)))
+abbrev pub found_luts : List Lut → Result ⊤ LutFault → Found
+found_luts luts (Ok _) = Found.none
+found_luts luts (Err (lut-fault.Cut g)) = Found.broken (Rule.cut g.id (leaves_listed luts g.id))
+found_luts luts (Err (lut-fault.Function g)) = Found.broken (Rule.function (lut_of g.id (leaves_listed luts g.id) (table_listed luts g.id)))
 
 module _ (net : Net) (tables : ℕ → ℕ) (k : ℕ) (outputs : List ℕ) (sheet : Sheet) (luts : List Lut) {nodes least : ℕ} (rise : Roots nodes least luts) (table : ℕ → ℕ)
     (same : (v : ℕ) → is_listed luts v ≡ true → table v ≡ table_listed luts v) where
@@ -55,7 +56,7 @@ module _ (net : Net) (tables : ℕ → ℕ) (k : ℕ) (outputs : List ℕ) (shee
   kept_before below y m less = kept_rules m (below y.root less (standing m).listed)
 
   cut_at : {lut : Lut} → Memᴰ lut luts → KeptBelow net tables k (luts_of luts) table lut.root → (Cut net k lut.root (leaves_listed luts lut.root) → ⊥) →
-      FirstBroken (Keeps net tables k outputs sheet) (flat_map lut_rules luts) (found_luts luts (luts-judged.Cut (record { id = lut.root })))
+      FirstBroken (Keeps net tables k outputs sheet) (flat_map lut_rules luts) (found_luts luts (Err (lut-fault.Cut (record { id = lut.root }))))
   unfolding Keeps
   cut_at {lut} m below none =
       let l = (standing m).leaves_are in
@@ -63,31 +64,31 @@ module _ (net : Net) (tables : ℕ → ℕ) (k : ℕ) (outputs : List ℕ) (shee
 
   function_at : {lut : Lut} → Memᴰ lut luts → KeptBelow net tables k (luts_of luts) table lut.root → Cut net k lut.root (leaves_listed luts lut.root) →
       (ConeTable net tables (leaves_listed luts lut.root) lut.root (table lut.root) → ⊥) →
-      FirstBroken (Keeps net tables k outputs sheet) (flat_map lut_rules luts) (found_luts luts (luts-judged.Function (record { id = lut.root })))
+      FirstBroken (Keeps net tables k outputs sheet) (flat_map lut_rules luts) (found_luts luts (Err (lut-fault.Function (record { id = lut.root }))))
   unfolding Keeps
   function_at {lut} m below cut none =
       let l = (standing m).leaves_are in
       rw (l, (standing m).table_is)
       (first_lut rise m (kept_before below) (FirstBroken.later (rw l at cut) (FirstBroken.here (λ right. none (rw (l, table_is m) right)))))
 
-  pub luts_found : {r : LutsJudged} → LutsRuled net tables k (luts_of luts) table r →
+  pub luts_found : {r : Result ⊤ LutFault} → LutsRuled net tables k (luts_of luts) table r →
       FirstBroken (Keeps net tables k outputs sheet) (flat_map lut_rules luts) (found_luts luts r)
   luts_found (LutsRuled.kept each) = first_none luts (λ lut m. kept_rules m (each lut.root (standing m).listed))
   luts_found (LutsRuled.cut {r = r} at below none) =
       let found = listed_lut_lem luts r at in
-      subst (λ (w : ℕ). FirstBroken (Keeps net tables k outputs sheet) (flat_map lut_rules luts) (found_luts luts (luts-judged.Cut (record { id = w })))) found.root_is
+      subst (λ (w : ℕ). FirstBroken (Keeps net tables k outputs sheet) (flat_map lut_rules luts) (found_luts luts (Err (lut-fault.Cut (record { id = w }))))) found.root_is
       (cut_at found.member (rw found.root_is below) (rw found.root_is none))
   luts_found (LutsRuled.function {r = r} at below cut none) =
       let found = listed_lut_lem luts r at in
-      subst (λ (w : ℕ). FirstBroken (Keeps net tables k outputs sheet) (flat_map lut_rules luts) (found_luts luts (luts-judged.Function (record { id = w })))) found.root_is
+      subst (λ (w : ℕ). FirstBroken (Keeps net tables k outputs sheet) (flat_map lut_rules luts) (found_luts luts (Err (lut-fault.Function (record { id = w }))))) found.root_is
       (function_at found.member (rw found.root_is below) (rw found.root_is cut) (rw found.root_is none))
 
 -- Pass four
 
-abbrev pub found_whole : WholeJudged → Found
-found_whole whole-judged.Kept = Found.none
-found_whole (whole-judged.Cover g) = Found.broken (Rule.cover g.id)
-found_whole whole-judged.Depth = Found.broken Rule.depth
+abbrev pub found_whole : Result ⊤ WholeFault → Found
+found_whole (Ok _) = Found.none
+found_whole (Err (whole-fault.Cover g)) = Found.broken (Rule.cover g.id)
+found_whole (Err whole-fault.Depth) = Found.broken Rule.depth
 
 covers_flat : (gs : List ℕ) → map Rule.cover gs ≡ flat_map (λ g. Rule.cover g ∷ []) gs
 unfolding flat_map
@@ -128,7 +129,7 @@ module _ (net cuts : Net) (tables : ℕ → ℕ) (k : ℕ) (outputs : List ℕ) 
   unfolding Keeps
   covers_kept each = rw (covers_flat (gates net)) (first_none (gates net) (λ g m. FirstBroken.later (each g (member_gate m)) FirstBroken.kept))
 
-  pub whole_found : {r : WholeJudged} → WholeRuled cuts outputs (luts_of sheet.luts) lab sheet.depth r →
+  pub whole_found : {r : Result ⊤ WholeFault} → WholeRuled cuts outputs (luts_of sheet.luts) lab sheet.depth r →
       FirstBroken (Keeps net tables k outputs sheet) (map Rule.cover (gates net) ++ (Rule.depth ∷ [])) (found_whole r)
   unfolding Keeps
   whole_found (WholeRuled.kept each depth) = first_after (covers_kept each) (FirstBroken.later (depth_kept inputs-same (sym labels_same) depth) FirstBroken.kept)

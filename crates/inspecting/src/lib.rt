@@ -20,8 +20,8 @@ use sheet::limits::MOST_DEPTH;
 use sheet::{Fault, Ruling, narrow_form};
 use storage::{Label, Node, Numbers};
 use taking::{TakeError, take_table};
-use weighing::luts::{LutsJudged, judge_luts};
-use weighing::whole::{WholeJudged, judge_whole};
+use weighing::luts::{LutFault, judge_luts};
+use weighing::whole::{WholeFault, judge_whole};
 
 // What the inspector says: the depth of a sheet that keeps all rules; the table's refusal; the lowest gate on a loop; the fault in the
 // sheet's shape; or the first rule that is broken, with its gate. Depth names no gate.
@@ -72,9 +72,9 @@ fn judge_last(
         &mut values,
     );
     match third {
-        LutsJudged::Cut(root) => Inspection::Cut(root),
-        LutsJudged::Function(root) => Inspection::Function(root),
-        LutsJudged::Kept => {
+        Err(LutFault::Cut(root)) => Inspection::Cut(root),
+        Err(LutFault::Function(root)) => Inspection::Function(root),
+        Ok(()) => {
             let mut depths = [0u16; MOST_NODES];
             let fourth = judge_whole(
                 numbers,
@@ -88,9 +88,9 @@ fn judge_last(
                 &mut depths,
             );
             match fourth {
-                WholeJudged::Cover(gate) => Inspection::Cover(gate),
-                WholeJudged::Depth => Inspection::Depth,
-                WholeJudged::Kept => Inspection::Accepted(head),
+                Err(WholeFault::Cover(gate)) => Inspection::Cover(gate),
+                Err(WholeFault::Depth) => Inspection::Depth,
+                Ok(()) => Inspection::Accepted(head),
             }
         }
     }

@@ -61,15 +61,12 @@ pub fn write_lines(
         numbers.k.leaves labels.now cuts.now numbers.nodes sheet.old at
         sheet.new result }
 {
-    let nodes = numbers.nodes;
     let mut to = at;
-    let mut v = numbers.inputs;
-    while v < nodes {
+    for v in numbers.inputs..numbers.nodes {
         let gate = Node { id: v as u16 };
         to = write_line(
             form, numbers, fanins, order, gate, labels, cuts, roles, links, sheet, to,
         );
-        v += 1;
     }
     to
 }

@@ -47,11 +47,9 @@ pub fn write_luts(
         luts.now tables.now nodes)) sheet.new result }
 {
     let mut to = at;
-    let mut v: usize = 0;
-    while v < nodes {
+    for v in 0..nodes {
         let root = Node { id: v as u16 };
         to = write_lut(form, root, cuts, luts, tables, sheet, to);
-        v += 1;
     }
     to
 }

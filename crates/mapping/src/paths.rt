@@ -44,10 +44,8 @@ fn write_paths(
         numbers.nodes links.old)) sheet.new result }
 {
     let mut to = at;
-    let mut i: usize = 0;
-    while i < many {
+    for i in 0..many {
         to = write_path(form, numbers, i, links, sheet, to);
-        i += 1;
     }
     to
 }

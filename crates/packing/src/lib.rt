@@ -66,13 +66,10 @@ fn store_tables(
 {
     let nodes = numbers.nodes;
     fill(words, nodes, 0);
-    let mut v: usize = 0;
-    while v < nodes {
+    for v in 0..nodes {
         let gate = Node { id: v as u16 };
         let table = table_of(numbers, fanins, rows, order, gate, cuts, luts, words);
-        let at = nodes + v;
-        words[at] = table;
-        v += 1;
+        words[nodes + v] = table;
     }
 }
 

@@ -25,8 +25,10 @@ use Rattle.covering.proofs.Leaves.{leaves_from, leaves_cut, leaves_room}
 use Rattle.covering.proofs.Orders.{order_gate, order_once, gate_place, fanin_before}
 use Rattle.covering.proofs.Covered.{root_marked}
 use Rattle.sheet.specs.paper.Rules.{CoverKept}
-use Rattle.weighing.specs.declared.whole.WholeJudged.{WholeJudged}
-use Rattle.weighing.specs.declared.whole.WholeJudged.TheVariants as judged
+use Rattle.std.specs.Prelude.{Option, None, Some, ⊤, Result, Ok, Err}
+use Rattle.storage.specs.declared.Node.{Node}
+use Rattle.weighing.specs.declared.whole.WholeFault.{WholeFault}
+use Rattle.weighing.specs.declared.whole.WholeFault.TheVariants as fault
 use Rattle.weighing.specs.PassFour.{CoverRuled, WholeRuled, WholeAsked, WholeAnswered, CoverAsked, CoverTold, deepest, DepthFits, DepthSet, DepthsAsked, DepthsFound, DeepAsked, DeepTold}
 
 depths_of : {net : Net} {luts : Luts} (dep : ℕ → ℕ) (vs : List ℕ) → ((v : ℕ) → Memᴰ v vs → Depth net luts v (dep v)) → Depths net luts vs (greatest (map dep vs))
@@ -244,21 +246,21 @@ module _ {inputs nodes : ℕ} {order luts cuts outputs : List ℕ} {number : ℕ
   root_gate : (r : ℕ) → is_root nodes luts r ≡ true → Gate (net_in inputs nodes cuts) r
   root_gate r at = gate_of_lem inputs nodes cuts (p.gates r at) (root_marked nodes luts r at).0
 
-  all_kept : CoverRuled (net_in inputs nodes cuts) (take number outputs) (luts_in inputs nodes cuts luts) judged.Kept →
+  all_kept : CoverRuled (net_in inputs nodes cuts) (take number outputs) (luts_in inputs nodes cuts luts) None →
       (g : ℕ) → Gate (net_in inputs nodes cuts) g → CoverKept (take number outputs) (luts_in inputs nodes cuts luts) g
   all_kept (CoverRuled.kept each) = each
 
-  module _ {depths₁ : List ℕ} (first : depths₁ ≡ cleared nodes depths) {r : WholeJudged} {wanted' : List ℕ}
+  module _ {depths₁ : List ℕ} (first : depths₁ ≡ cleared nodes depths) {r : Option Node} {wanted' : List ℕ}
       (told : CoverTold inputs nodes luts cuts (take number outputs) wanted r wanted') where
-    pub whole_cover : (head : ℕ) → (r ≡ judged.Kept → ⊥) → WholeAnswered inputs nodes luts cuts (take number outputs) labels head wanted depths r wanted' depths₁
-    whole_cover head broken = record { reply = by told.reply broken; wanted_clear = told.clear; depths_clear = first }
+    pub whole_cover : (head : ℕ) {g : Node} → r ≡ Some g →
+        WholeAnswered inputs nodes luts cuts (take number outputs) labels head wanted depths (Err (fault.Cover g)) wanted' depths₁
+    whole_cover head e = record { reply = by (rw e at told.reply); wanted_clear = told.clear; depths_clear = first }
       where
-        by : {r : WholeJudged} → CoverRuled (net_in inputs nodes cuts) (take number outputs) (luts_in inputs nodes cuts luts) r → (r ≡ judged.Kept → ⊥) →
-            WholeRuled (net_in inputs nodes cuts) (take number outputs) (luts_in inputs nodes cuts luts) (λ v. get_or labels v 0) head r
-        by (CoverRuled.kept each) broken = absurd (broken refl)
-        by (CoverRuled.cover gate so_far none) broken = WholeRuled.cover gate so_far none
+        by : {g : Node} → CoverRuled (net_in inputs nodes cuts) (take number outputs) (luts_in inputs nodes cuts luts) (Some g) →
+            WholeRuled (net_in inputs nodes cuts) (take number outputs) (luts_in inputs nodes cuts luts) (λ v. get_or labels v 0) head (Err (fault.Cover g))
+        by (CoverRuled.cover gate so_far none) = WholeRuled.cover gate so_far none
 
-    module _ (kept : r ≡ judged.Kept) where
+    module _ (kept : r ≡ None) where
       covered : (g : ℕ) → Gate (net_in inputs nodes cuts) g → CoverKept (take number outputs) (luts_in inputs nodes cuts luts) g
       covered = all_kept (rw kept at told.reply)
 
@@ -283,18 +285,18 @@ module _ {inputs nodes : ℕ} {order luts cuts outputs : List ℕ} {number : ℕ
           }
 
       module _ {reached : ℕ} {depths' : List ℕ} (deep : DeepTold inputs nodes luts cuts (take number outputs) depths₁ reached depths') (head : ℕ) where
-        answered : {r : WholeJudged} → WholeRuled (net_in inputs nodes cuts) (take number outputs) (luts_in inputs nodes cuts luts) (λ v. get_or labels v 0) head r →
+        answered : {r : Result ⊤ WholeFault} → WholeRuled (net_in inputs nodes cuts) (take number outputs) (luts_in inputs nodes cuts luts) (λ v. get_or labels v 0) head r →
             WholeAnswered inputs nodes luts cuts (take number outputs) labels head wanted depths r wanted' depths'
         answered ruled = record { reply = ruled; wanted_clear = told.clear; depths_clear = deep.clear ∙ rw first (cleared_used nodes (cleared_beyond nodes depths p.depths_long)) }
 
-        pub whole_not_reached : (reached ≡ head → ⊥) → WholeAnswered inputs nodes luts cuts (take number outputs) labels head wanted depths judged.Depth wanted' depths'
+        pub whole_not_reached : (reached ≡ head → ⊥) → WholeAnswered inputs nodes luts cuts (take number outputs) labels head wanted depths (Err fault.Depth) wanted' depths'
         whole_not_reached other = answered (WholeRuled.depth_broken covered (λ d. other (depths_are_one root_gate deep.reached d.reached)))
 
         module _ {label : ℕ} (labelled : label ≡ greatest (map (λ v. get_or labels v 0) (take number outputs))) where
-          pub whole_not_labelled : (label ≡ head → ⊥) → WholeAnswered inputs nodes luts cuts (take number outputs) labels head wanted depths judged.Depth wanted' depths'
+          pub whole_not_labelled : (label ≡ head → ⊥) → WholeAnswered inputs nodes luts cuts (take number outputs) labels head wanted depths (Err fault.Depth) wanted' depths'
           whole_not_labelled other = answered (WholeRuled.depth_broken covered (λ d. other (labelled ∙ d.labelled)))
 
-          pub whole_kept : reached ≡ head → label ≡ head → WholeAnswered inputs nodes luts cuts (take number outputs) labels head wanted depths judged.Kept wanted' depths'
+          pub whole_kept : reached ≡ head → label ≡ head → WholeAnswered inputs nodes luts cuts (take number outputs) labels head wanted depths (Ok tt) wanted' depths'
           whole_kept e f =
               answered
               (WholeRuled.kept covered

@@ -2,7 +2,7 @@
 use Prim.Native.Nat.{ℕ, ◌+◌, ◌*◌, ◌≤◌, ◌<◌}
 use native.Mathlib.Decide.{ℕ_discrete}
 use native.Mathlib.Omega.{arith}
-use mathlib.Core.Path.{◌≡◌, refl, sym, subst, ◌∙◌}
+use mathlib.Core.Path.{◌≡◌, sym, subst, ◌∙◌}
 use mathlib.Core.Bool.{Bool, true, false}
 use mathlib.Core.List.{List}
 use lib.ListN.{length, get_or, take}
@@ -13,7 +13,7 @@ use Rattle.storage.specs.Lists.{size_at, list_at}
 use Rattle.storage.specs.Drawings.{net_in, tables_in}
 use Rattle.storage.proofs.Entries.{false_not_true}
 use Rattle.storage.proofs.Clears.{cleared_beyond, cleared_used, beyond_same, beyond_then}
-use Rattle.storage.proofs.Drawings.{fanins_in, drawn_span, gate_of_lem}
+use Rattle.storage.proofs.Drawings.{fanins_in, gate_of_lem}
 use Rattle.theory.specs.paper.Net.{Net}
 use Rattle.theory.specs.paper.Walk.{Cut}
 use Rattle.theory.specs.paper.Cover.{Luts}
@@ -25,8 +25,9 @@ use Rattle.covering.specs.Cones.{ConeAsked, ConeAnswered}
 use Rattle.covering.specs.Covers.{luts_in}
 use Rattle.covering.proofs.Leaves.{leaves_from, leaves_cut, leaves_room}
 use Rattle.covering.proofs.Covered.{root_marked, marked_root}
-use Rattle.weighing.specs.declared.luts.LutsJudged.{LutsJudged}
-use Rattle.weighing.specs.declared.luts.LutsJudged.TheVariants as judged
+use Rattle.std.specs.Prelude.{⊤, Result, Ok, Err}
+use Rattle.weighing.specs.declared.luts.LutFault.{LutFault}
+use Rattle.weighing.specs.declared.luts.LutFault.TheVariants as fault
 use Rattle.weighing.specs.PassThree.{LutKept, KeptBelow, LutsRuled, NodeRuled, LutsAsked, LutsAnswered, CutAsked, CutTold, FunctionAsked, FunctionTold, NodeAsked, NodeJudged, FirstJudged}
 
 -- A root's leaves
@@ -87,19 +88,19 @@ module _ (net : Net) (tables : ℕ → ℕ) (k inputs nodes : ℕ) (luts cuts : 
   leaves_at : (luts_in inputs nodes cuts luts).leaves v ≡ list_at cuts v
   leaves_at = fanins_in inputs nodes cuts v below
 
-  pub node_none : (get_or luts v 0 ≡ 1 → ⊥) → NodeRuled net tables k (luts_in inputs nodes cuts luts) table v judged.Kept
+  pub node_none : (get_or luts v 0 ≡ 1 → ⊥) → NodeRuled net tables k (luts_in inputs nodes cuts luts) table v (Ok tt)
   node_none other = NodeRuled.kept (λ at. absurd (other (root_marked nodes luts v at).1))
 
   pub node_cut : get_or luts v 0 ≡ 1 → (Cut net k v (list_at cuts v) → ⊥) →
-      NodeRuled net tables k (luts_in inputs nodes cuts luts) table v (judged.Cut (record { id = v }))
+      NodeRuled net tables k (luts_in inputs nodes cuts luts) table v (Err (fault.Cut (record { id = v })))
   node_cut one none = NodeRuled.cut (marked_root nodes luts v below one) (λ cut. none (rw leaves_at at cut))
 
   pub node_function : get_or luts v 0 ≡ 1 → Cut net k v (list_at cuts v) → (ConeTable net tables (list_at cuts v) v (table v) → ⊥) →
-      NodeRuled net tables k (luts_in inputs nodes cuts luts) table v (judged.Function (record { id = v }))
+      NodeRuled net tables k (luts_in inputs nodes cuts luts) table v (Err (fault.Function (record { id = v })))
   node_function one cut none = NodeRuled.function (marked_root nodes luts v below one) (rw leaves_at cut) (λ right. none (rw leaves_at at right))
 
   pub node_kept : Cut net k v (list_at cuts v) → ConeTable net tables (list_at cuts v) v (table v) →
-      NodeRuled net tables k (luts_in inputs nodes cuts luts) table v judged.Kept
+      NodeRuled net tables k (luts_in inputs nodes cuts luts) table v (Ok tt)
   node_kept cut right = NodeRuled.kept (λ _. record { cut = rw leaves_at cut; function = rw leaves_at right })
 
 module _ {inputs nodes k : ℕ} {fanins rows order luts cuts tables roles values : List ℕ} {v : ℕ}
@@ -130,7 +131,7 @@ module _ {inputs nodes k : ℕ} {fanins rows order luts cuts tables roles values
         cut = cut;
       }
 
-  pub judged_none : (get_or luts v 0 ≡ 1 → ⊥) → NodeJudged inputs nodes k fanins rows luts cuts tables v roles values judged.Kept roles values
+  pub judged_none : (get_or luts v 0 ≡ 1 → ⊥) → NodeJudged inputs nodes k fanins rows luts cuts tables v roles values (Ok tt) roles values
   judged_none other =
       record {
         reply = node_none (net_in inputs nodes fanins) (tables_in rows) k inputs nodes luts cuts (tables_in tables) v p.below other;
@@ -139,7 +140,7 @@ module _ {inputs nodes k : ℕ} {fanins rows order luts cuts tables roles values
       }
 
   module _ (one : get_or luts v 0 ≡ 1) {a : Bool} {roles' : List ℕ} (cut : CutTold inputs nodes k fanins cuts v roles a roles') where
-    pub judged_cut : a ≡ false → NodeJudged inputs nodes k fanins rows luts cuts tables v roles values (judged.Cut (record { id = v })) roles' values
+    pub judged_cut : a ≡ false → NodeJudged inputs nodes k fanins rows luts cuts tables v roles values (Err (fault.Cut (record { id = v }))) roles' values
     judged_cut none =
         record {
           reply = node_cut (net_in inputs nodes fanins) (tables_in rows) k inputs nodes luts cuts (tables_in tables) v p.below one (cut.reply.no none);
@@ -149,7 +150,7 @@ module _ {inputs nodes k : ℕ} {fanins rows order luts cuts tables roles values
 
     module _ (is_cut : a ≡ true) {b : Bool} {values' : List ℕ} (told : FunctionTold inputs nodes fanins rows cuts tables v values b values') where
       pub judged_function : b ≡ false →
-          NodeJudged inputs nodes k fanins rows luts cuts tables v roles values (judged.Function (record { id = v })) roles' values'
+          NodeJudged inputs nodes k fanins rows luts cuts tables v roles values (Err (fault.Function (record { id = v }))) roles' values'
       judged_function none =
           record {
             reply =
@@ -159,7 +160,7 @@ module _ {inputs nodes k : ℕ} {fanins rows order luts cuts tables roles values
             values_rest = told.rest;
           }
 
-      pub judged_kept : b ≡ true → NodeJudged inputs nodes k fanins rows luts cuts tables v roles values judged.Kept roles' values'
+      pub judged_kept : b ≡ true → NodeJudged inputs nodes k fanins rows luts cuts tables v roles values (Ok tt) roles' values'
       judged_kept right =
           record {
             reply =
@@ -175,21 +176,18 @@ module _ {net : Net} {tables : ℕ → ℕ} {k : ℕ} {luts : Luts} {table : ℕ
   pub kept_none : (inputs : ℕ) → ((r : ℕ) → luts.root r ≡ true → inputs ≤ r) → KeptBelow net tables k luts table inputs
   kept_none inputs gates r low at = absurd (omega (arith, gates r at))
 
-  pub kept_more : (v : ℕ) → KeptBelow net tables k luts table v → NodeRuled net tables k luts table v judged.Kept → KeptBelow net tables k luts table (v + 1)
+  pub kept_more : (v : ℕ) → KeptBelow net tables k luts table v → NodeRuled net tables k luts table v (Ok tt) → KeptBelow net tables k luts table (v + 1)
   kept_more v so_far (NodeRuled.kept here) r low at = by (ℕ_discrete r v)
     where
       by : Dec (r ≡ v) → LutKept net tables k luts table r
       by (yes e) = subst (LutKept net tables k luts table) (sym e) (here (subst (λ (w : ℕ). luts.root w ≡ true) e at))
       by (no apart) = so_far r (omega arith) at
 
-  pub ruled_here : {v : ℕ} {r : LutsJudged} → KeptBelow net tables k luts table v → NodeRuled net tables k luts table v r → (r ≡ judged.Kept → ⊥) → LutsRuled net tables k luts table r
-  ruled_here so_far (NodeRuled.kept here) broken = absurd (broken refl)
-  ruled_here so_far (NodeRuled.cut at none) broken = LutsRuled.cut at so_far none
-  ruled_here so_far (NodeRuled.function at cut none) broken = LutsRuled.function at so_far cut none
+  pub ruled_here : {v : ℕ} {f : LutFault} → KeptBelow net tables k luts table v → NodeRuled net tables k luts table v (Err f) → LutsRuled net tables k luts table (Err f)
+  ruled_here so_far (NodeRuled.cut at none) = LutsRuled.cut at so_far none
+  ruled_here so_far (NodeRuled.function at cut none) = LutsRuled.function at so_far cut none
 
 pub record NodesPassed (inputs nodes k : ℕ) (fanins rows luts cuts tables roles₀ values₀ : List ℕ) (v : ℕ) (roles values : List ℕ) : Type 0 where
-  pub above : inputs ≤ v
-  pub passed : v ≤ nodes
   pub kept : KeptBelow (net_in inputs nodes fanins) (tables_in rows) k (luts_in inputs nodes cuts luts) (tables_in tables) v
   pub roles_rest : Beyond nodes roles₀ roles
   pub values_rest : Beyond nodes values₀ values
@@ -199,16 +197,14 @@ module _ {inputs nodes k : ℕ} {fanins rows order luts cuts tables roles₀ val
   pub nodes_begin : NodesPassed inputs nodes k fanins rows luts cuts tables roles₀ values₀ inputs roles₀ values₀
   nodes_begin =
       record {
-        above = omega arith;
-        passed = drawn_span p.drawing.drawn;
         kept = kept_none inputs p.laid.gates;
         roles_rest = beyond_same nodes roles₀;
         values_rest = beyond_same nodes values₀;
       }
 
   module _ {v : ℕ} {roles values : List ℕ} (i : NodesPassed inputs nodes k fanins rows luts cuts tables roles₀ values₀ v roles values) where
-    pub node_asked : v < nodes → NodeAsked inputs nodes k fanins rows order luts cuts tables roles values v
-    node_asked below =
+    pub node_asked : inputs ≤ v → v < nodes → NodeAsked inputs nodes k fanins rows order luts cuts tables roles values v
+    node_asked above below =
         record {
           asked =
               record {
@@ -219,30 +215,29 @@ module _ {inputs nodes k : ℕ} {fanins rows order luts cuts tables roles₀ val
                 roles_long = omega (arith, p.roles_long, i.roles_rest.size);
                 values_long = omega (arith, p.values_long, i.values_rest.size);
               };
-          above = i.above;
+          above = above;
           below = below;
         }
 
-    module _ {r : LutsJudged} {roles' values' : List ℕ} (here : NodeJudged inputs nodes k fanins rows luts cuts tables v roles values r roles' values') where
-      pub nodes_stop : (r ≡ judged.Kept → ⊥) → FirstJudged inputs nodes k fanins rows luts cuts tables roles₀ values₀ r roles' values'
-      nodes_stop broken =
-          record {
-            reply = ruled_here i.kept here.reply broken;
-            roles_rest = beyond_then i.roles_rest here.roles_rest;
-            values_rest = beyond_then i.values_rest here.values_rest;
-          }
+    pub nodes_stop : {f : LutFault} {roles' values' : List ℕ} → NodeJudged inputs nodes k fanins rows luts cuts tables v roles values (Err f) roles' values' →
+        FirstJudged inputs nodes k fanins rows luts cuts tables roles₀ values₀ (Err f) roles' values'
+    nodes_stop here =
+        record {
+          reply = ruled_here i.kept here.reply;
+          roles_rest = beyond_then i.roles_rest here.roles_rest;
+          values_rest = beyond_then i.values_rest here.values_rest;
+        }
 
-      pub nodes_more : v < nodes → r ≡ judged.Kept → NodesPassed inputs nodes k fanins rows luts cuts tables roles₀ values₀ (v + 1) roles' values'
-      nodes_more below kept =
-          record {
-            above = omega (arith, i.above);
-            passed = omega arith;
-            kept = kept_more v i.kept (rw kept at here.reply);
-            roles_rest = beyond_then i.roles_rest here.roles_rest;
-            values_rest = beyond_then i.values_rest here.values_rest;
-          }
+    pub nodes_more : {roles' values' : List ℕ} → NodeJudged inputs nodes k fanins rows luts cuts tables v roles values (Ok tt) roles' values' →
+        NodesPassed inputs nodes k fanins rows luts cuts tables roles₀ values₀ (v + 1) roles' values'
+    nodes_more here =
+        record {
+          kept = kept_more v i.kept here.reply;
+          roles_rest = beyond_then i.roles_rest here.roles_rest;
+          values_rest = beyond_then i.values_rest here.values_rest;
+        }
 
-    pub nodes_all : nodes ≤ v → FirstJudged inputs nodes k fanins rows luts cuts tables roles₀ values₀ judged.Kept roles values
+    pub nodes_all : nodes ≤ v → FirstJudged inputs nodes k fanins rows luts cuts tables roles₀ values₀ (Ok tt) roles values
     nodes_all all =
         record {
           reply = LutsRuled.kept (λ r at. i.kept r (omega (arith, (root_marked nodes luts r at).0)) at);
@@ -250,7 +245,7 @@ module _ {inputs nodes k : ℕ} {fanins rows order luts cuts tables roles₀ val
           values_rest = i.values_rest;
         }
 
-pub luts_answered : {inputs nodes k : ℕ} {fanins rows luts cuts tables roles₀ values₀ : List ℕ} {r : LutsJudged} {roles values roles' values' : List ℕ} →
+pub luts_answered : {inputs nodes k : ℕ} {fanins rows luts cuts tables roles₀ values₀ : List ℕ} {r : Result ⊤ LutFault} {roles values roles' values' : List ℕ} →
     FirstJudged inputs nodes k fanins rows luts cuts tables roles₀ values₀ r roles values → roles' ≡ cleared nodes roles → values' ≡ cleared nodes values →
     LutsAnswered inputs nodes k fanins rows luts cuts tables roles₀ values₀ r roles' values'
 luts_answered {nodes = nodes} first roles-last values-last =

@@ -9,6 +9,8 @@ use mathlib.Core.Logic.{◌⊎◌, inl, inr, ⊎_elim}
 use mathlib.Core.List.{List, Memᴰ}
 use lib.ListN.{length, get_or, take, drop, length-drop}
 use lib.Seq.{get_or-drop}
+use Rattle.std.specs.Prelude.{Option}
+use Rattle.storage.specs.declared.Node.{Node}
 use Rattle.storage.specs.Entries.{cleared, Beyond}
 use Rattle.storage.specs.Marks.{Marks}
 use Rattle.storage.specs.Lists.{size_at, entry_at, list_at}
@@ -19,12 +21,11 @@ use Rattle.storage.proofs.InLists.{list_member}
 use Rattle.storage.proofs.Drawings.{fanins_in, gate_of_lem, gate_above, gate_below}
 use Rattle.theory.specs.paper.Net.{Gate}
 use Rattle.theory.specs.paper.Cover.{Luts, Wanted}
-use Rattle.covering.specs.Covers.{luts_in, GatesFit, GateAmong, GatesMarked, MarksFit}
+use Rattle.covering.specs.Covers.{luts_in, GatesFit, GateAmong, GatesMarked, LeavesFit, LeavesMarked, MarksFit}
 use Rattle.covering.proofs.Marking.{marked_beyond}
 use Rattle.covering.proofs.Covered.{root_marked, marked_root}
 use Rattle.sheet.specs.paper.Rules.{CoverKept}
-use Rattle.weighing.specs.declared.whole.WholeJudged.{WholeJudged}
-use Rattle.weighing.specs.PassFour.{CoverRuled, LeavesFit, LeavesWanted, CoverAsked, GateWanted, WantedMarked, Compared, CoverTold}
+use Rattle.weighing.specs.PassFour.{CoverRuled, CoverAsked, GateWanted, WantedMarked, Compared, CoverTold}
 
 -- Marks that grow
 
@@ -78,8 +79,6 @@ pub data WantedBelow (inputs : ℕ) (outputs : List ℕ) (luts : Luts) (upto v :
   leaf : inputs ≤ v → (r : ℕ) → r < upto → luts.root r ≡ true → Memᴰ v (luts.leaves r) → WantedBelow inputs outputs luts upto v
 
 pub record WantedUpto (inputs nodes : ℕ) (luts cuts outputs before : List ℕ) (v : ℕ) (after : List ℕ) : Type 0 where
-  pub above : inputs ≤ v
-  pub passed : v ≤ nodes
   pub marks : Marks nodes (WantedBelow inputs outputs (luts_in inputs nodes cuts luts) v) after
   pub rest : Beyond nodes before after
 
@@ -100,8 +99,6 @@ module _ {inputs nodes : ℕ} {luts cuts outputs : List ℕ} {number room : ℕ}
       GatesMarked outputs 0 number inputs clean after → WantedUpto inputs nodes luts cuts (take number outputs) after inputs after
   wanted_begin before {clean} {after} long e more =
       record {
-        above = omega arith;
-        passed = p.span;
         marks = marks_as to back (marks_more outputs 0 number inputs (marks_none before (omega (arith, p.wanted_long)) e) more);
         rest = beyond_same nodes after;
       }
@@ -133,72 +130,62 @@ module _ {inputs nodes : ℕ} {luts cuts outputs : List ℕ} {number room : ℕ}
     inside : 7 * v + 1 + size_at cuts v ≤ length cuts
     inside = omega (arith, places, few)
 
-    pub leaves_fit : LeavesFit luts cuts v room
+    pub leaves_fit : LeavesFit cuts v room
     leaves_fit =
         record {
-          gates =
-              record {
-                inside = inside;
-                nodes = λ i low. omega (arith, leaf_node (entry_at cuts v i) (list_member cuts v places few i low), p.wanted_long);
-              };
-          luts_long = omega (arith, p.marks.inside);
+          inside = inside;
+          nodes = λ i low. omega (arith, leaf_node (entry_at cuts v i) (list_member cuts v places few i low), p.wanted_long);
         }
 
-    pub wanted_more : {before now after : List ℕ} → WantedUpto inputs nodes luts cuts (take number outputs) before v now →
-        LeavesWanted luts cuts v inputs now after → WantedUpto inputs nodes luts cuts (take number outputs) before (v + 1) after
-    wanted_more {before} {now} {after} so_far turn = by (ℕ_discrete (get_or luts v 0) 1)
-      where
-        Before : ℕ → Type 0
-        Before u = WantedBelow inputs (take number outputs) (luts_in inputs nodes cuts luts) v u
+    module _ {before now : List ℕ} (so_far : WantedUpto inputs nodes luts cuts (take number outputs) before v now) where
+      abbrev Before : ℕ → Type 0
+      Before u = WantedBelow inputs (take number outputs) (luts_in inputs nodes cuts luts) v u
 
-        After : ℕ → Type 0
-        After u = WantedBelow inputs (take number outputs) (luts_in inputs nodes cuts luts) (v + 1) u
+      abbrev After : ℕ → Type 0
+      After u = WantedBelow inputs (take number outputs) (luts_in inputs nodes cuts luts) (v + 1) u
 
-        widen : (u : ℕ) → Before u → After u
-        widen u (WantedBelow.output gate m) = WantedBelow.output gate m
-        widen u (WantedBelow.leaf gate r less at m) = WantedBelow.leaf gate r (omega arith) at m
+      widen : (u : ℕ) → Before u → After u
+      widen u (WantedBelow.output gate m) = WantedBelow.output gate m
+      widen u (WantedBelow.leaf gate r less at m) = WantedBelow.leaf gate r (omega arith) at m
 
-        by : Dec (get_or luts v 0 ≡ 1) → WantedUpto inputs nodes luts cuts (take number outputs) before (v + 1) after
-        by (yes one) =
-            let more = turn.root one in
-            record {
-              above = omega arith;
-              passed = omega arith;
-              marks = marks_as to back (marks_more cuts (7 * v + 1) (size_at cuts v) inputs so_far.marks more);
-              rest = beyond_then so_far.rest (marked_beyond more (λ u a. leaf_node u (among_member cuts (7 * v + 1) (size_at cuts v) inputs inside a)));
-            }
-          where
-            to : (u : ℕ) → u < nodes → Before u ⊎ GateAmong cuts (7 * v + 1) (size_at cuts v) inputs u → After u
-            to u low (inl w) = widen u w
-            to u low (inr a) =
-                WantedBelow.leaf a.gate v (omega arith) (marked_root nodes luts v below one)
-                (rw leaves_at (among_member cuts (7 * v + 1) (size_at cuts v) inputs inside a))
+      pub wanted_root : {after : List ℕ} → get_or luts v 0 ≡ 1 → LeavesMarked cuts v inputs now after →
+          WantedUpto inputs nodes luts cuts (take number outputs) before (v + 1) after
+      wanted_root one more =
+          record {
+            marks = marks_as to back (marks_more cuts (7 * v + 1) (size_at cuts v) inputs so_far.marks more);
+            rest = beyond_then so_far.rest (marked_beyond more (λ u a. leaf_node u (among_member cuts (7 * v + 1) (size_at cuts v) inputs inside a)));
+          }
+        where
+          to : (u : ℕ) → u < nodes → Before u ⊎ GateAmong cuts (7 * v + 1) (size_at cuts v) inputs u → After u
+          to u low (inl w) = widen u w
+          to u low (inr a) =
+              WantedBelow.leaf a.gate v (omega arith) (marked_root nodes luts v below one)
+              (rw leaves_at (among_member cuts (7 * v + 1) (size_at cuts v) inputs inside a))
 
-            back : (u : ℕ) → u < nodes → After u → Before u ⊎ GateAmong cuts (7 * v + 1) (size_at cuts v) inputs u
-            back u low (WantedBelow.output gate m) = inl (WantedBelow.output gate m)
-            back u low (WantedBelow.leaf gate r less at m) = here (ℕ_discrete r v)
-              where
-                here : Dec (r ≡ v) → Before u ⊎ GateAmong cuts (7 * v + 1) (size_at cuts v) inputs u
-                here (yes e) =
-                    let m' = subst (λ (w : ℕ). Memᴰ u ((net_in inputs nodes cuts).fanins w)) e m in
-                    inr (member_among cuts (7 * v + 1) (size_at cuts v) inputs gate (rw leaves_at at m'))
-                here (no apart) = inl (WantedBelow.leaf gate r (omega arith) at m)
-        by (no other) =
-            rw (turn.other other)
-            (record {
-              above = omega arith;
-              passed = omega arith;
-              marks = marks_as (λ u low. widen u) back so_far.marks;
-              rest = so_far.rest;
-            })
-          where
-            back : (u : ℕ) → u < nodes → After u → Before u
-            back u low (WantedBelow.output gate m) = WantedBelow.output gate m
-            back u low (WantedBelow.leaf gate r less at m) = here (ℕ_discrete r v)
-              where
-                here : Dec (r ≡ v) → Before u
-                here (yes e) = absurd (other (ap (λ (w : ℕ). get_or luts w 0) (sym e) ∙ (root_marked nodes luts r at).1))
-                here (no apart) = WantedBelow.leaf gate r (omega arith) at m
+          back : (u : ℕ) → u < nodes → After u → Before u ⊎ GateAmong cuts (7 * v + 1) (size_at cuts v) inputs u
+          back u low (WantedBelow.output gate m) = inl (WantedBelow.output gate m)
+          back u low (WantedBelow.leaf gate r less at m) = here (ℕ_discrete r v)
+            where
+              here : Dec (r ≡ v) → Before u ⊎ GateAmong cuts (7 * v + 1) (size_at cuts v) inputs u
+              here (yes e) =
+                  let m' = subst (λ (w : ℕ). Memᴰ u ((net_in inputs nodes cuts).fanins w)) e m in
+                  inr (member_among cuts (7 * v + 1) (size_at cuts v) inputs gate (rw leaves_at at m'))
+              here (no apart) = inl (WantedBelow.leaf gate r (omega arith) at m)
+
+      pub wanted_other : (get_or luts v 0 ≡ 1 → ⊥) → WantedUpto inputs nodes luts cuts (take number outputs) before (v + 1) now
+      wanted_other other =
+          record {
+            marks = marks_as (λ u low. widen u) back so_far.marks;
+            rest = so_far.rest;
+          }
+        where
+          back : (u : ℕ) → u < nodes → After u → Before u
+          back u low (WantedBelow.output gate m) = WantedBelow.output gate m
+          back u low (WantedBelow.leaf gate r less at m) = here (ℕ_discrete r v)
+            where
+              here : Dec (r ≡ v) → Before u
+              here (yes e) = absurd (other (ap (λ (w : ℕ). get_or luts w 0) (sym e) ∙ (root_marked nodes luts r at).1))
+              here (no apart) = WantedBelow.leaf gate r (omega arith) at m
 
   pub wanted_all : (before : List ℕ) {clean begun after : List ℕ} {v : ℕ} → length before ≡ room → clean ≡ cleared nodes before →
       GatesMarked outputs 0 number inputs clean begun → nodes ≤ v → WantedUpto inputs nodes luts cuts (take number outputs) begun v after →
@@ -253,7 +240,7 @@ module _ (inputs nodes : ℕ) (luts cuts outputs wanted : List ℕ) (fit : Marks
       by (inr a) (inl b) = let one = marks.marked v below (record { gate = above; wanted = kept.root (marked_root nodes luts v below a) }) in omega arith
 
 cover_ruled : (inputs nodes : ℕ) (luts cuts outputs wanted : List ℕ) → MarksFit luts nodes →
-    Marks nodes (GateWanted inputs outputs (luts_in inputs nodes cuts luts)) wanted → {r : WholeJudged} → Compared inputs nodes luts wanted r →
+    Marks nodes (GateWanted inputs outputs (luts_in inputs nodes cuts luts)) wanted → {r : Option Node} → Compared inputs nodes luts wanted r →
     CoverRuled (net_in inputs nodes cuts) outputs (luts_in inputs nodes cuts luts) r
 cover_ruled inputs nodes luts cuts outputs wanted fit marks (Compared.same each) =
     CoverRuled.kept
@@ -269,7 +256,7 @@ cover_ruled inputs nodes luts cuts outputs wanted fit marks (Compared.differ {v 
     (differed inputs nodes luts cuts outputs wanted fit marks v above below other)
 
 pub cover_told : {inputs nodes : ℕ} {luts cuts outputs : List ℕ} {number room : ℕ} → CoverAsked inputs nodes luts cuts outputs number room →
-    {before wanted after : List ℕ} {r : WholeJudged} → WantedMarked inputs nodes luts cuts (take number outputs) before wanted →
+    {before wanted after : List ℕ} {r : Option Node} → WantedMarked inputs nodes luts cuts (take number outputs) before wanted →
     Compared inputs nodes luts wanted r → after ≡ cleared nodes wanted → CoverTold inputs nodes luts cuts (take number outputs) before r after
 cover_told {inputs} {nodes} {luts} {cuts} {outputs} {number} p {wanted = wanted} marked compared last =
     record {

@@ -1,6 +1,7 @@
 -- Pass four, on the whole: "28, then 30". The leaves lie in arrays as fanins do, so they are a net of their own, whose order is the drawing's.
-use Rattle.std.specs.Prelude.{ℕ, ◌+◌, ◌*◌, ◌≤◌, ◌<◌, ◌≡◌, true, length, get_or, take, set}
+use Rattle.std.specs.Prelude.{ℕ, ◌+◌, ◌*◌, ◌≤◌, ◌<◌, ◌≡◌, true, length, get_or, take, set, Option, None, Some, ⊤, Result, Ok, Err}
 use mathlib.Core.List.{List, map, Memᴰ}
+use Rattle.storage.specs.declared.Node.{Node}
 use Rattle.storage.specs.Entries.{cleared, Beyond}
 use Rattle.storage.specs.Marks.{Marks}
 use Rattle.storage.specs.Lists.{size_at, list_at}
@@ -8,10 +9,10 @@ use Rattle.storage.specs.Drawings.{net_in}
 use Rattle.theory.specs.paper.Net.{Net, Gate}
 use Rattle.theory.specs.paper.Lists.{greatest}
 use Rattle.theory.specs.paper.Cover.{Luts, Wanted, Depth, Depths}
-use Rattle.covering.specs.Covers.{Chosen, is_root, luts_in, GatesFit, GatesMarked, MarksFit}
+use Rattle.covering.specs.Covers.{Chosen, is_root, luts_in, MarksFit}
 use Rattle.sheet.specs.paper.Rules.{CoverKept, DepthKept}
-use Rattle.weighing.specs.declared.whole.WholeJudged.{WholeJudged}
-use Rattle.weighing.specs.declared.whole.WholeJudged.TheVariants as judged
+use Rattle.weighing.specs.declared.whole.WholeFault.{WholeFault}
+use Rattle.weighing.specs.declared.whole.WholeFault.TheVariants as fault
 
 module _ (net : Net) (outputs : List ℕ) (luts : Luts) where
   -- the gates below v keep 28
@@ -19,15 +20,15 @@ module _ (net : Net) (outputs : List ℕ) (luts : Luts) where
   CoveredBelow v = (g : ℕ) → Gate net g → g < v → CoverKept outputs luts g
 
   -- 28: all gates keep it, or the lowest that does not
-  pub data CoverRuled : WholeJudged → Type 0 where
-    kept : ((g : ℕ) → Gate net g → CoverKept outputs luts g) → CoverRuled judged.Kept
-    cover : {g : ℕ} → Gate net g → CoveredBelow g → (CoverKept outputs luts g → ⊥) → CoverRuled (judged.Cover (record { id = g }))
+  pub data CoverRuled : Option Node → Type 0 where
+    kept : ((g : ℕ) → Gate net g → CoverKept outputs luts g) → CoverRuled None
+    cover : {g : ℕ} → Gate net g → CoveredBelow g → (CoverKept outputs luts g → ⊥) → CoverRuled (Some (record { id = g }))
 
   -- The reply of pass four: 28 at the lowest gate that breaks it, then 30.
-  pub data WholeRuled (lab : ℕ → ℕ) (depth : ℕ) : WholeJudged → Type 0 where
-    kept : ((g : ℕ) → Gate net g → CoverKept outputs luts g) → DepthKept net lab outputs luts depth → WholeRuled lab depth judged.Kept
-    cover : {g : ℕ} → Gate net g → CoveredBelow g → (CoverKept outputs luts g → ⊥) → WholeRuled lab depth (judged.Cover (record { id = g }))
-    depth_broken : ((g : ℕ) → Gate net g → CoverKept outputs luts g) → (DepthKept net lab outputs luts depth → ⊥) → WholeRuled lab depth judged.Depth
+  pub data WholeRuled (lab : ℕ → ℕ) (depth : ℕ) : Result ⊤ WholeFault → Type 0 where
+    kept : ((g : ℕ) → Gate net g → CoverKept outputs luts g) → DepthKept net lab outputs luts depth → WholeRuled lab depth (Ok tt)
+    cover : {g : ℕ} → Gate net g → CoveredBelow g → (CoverKept outputs luts g → ⊥) → WholeRuled lab depth (Err (fault.Cover (record { id = g })))
+    depth_broken : ((g : ℕ) → Gate net g → CoverKept outputs luts g) → (DepthKept net lab outputs luts depth → ⊥) → WholeRuled lab depth (Err fault.Depth)
 
 -- The arrays hold LUTs whose leaves come before their roots in the order (which 25 gives), the outputs and a label a node; and there is room
 -- for marks and depths.
@@ -43,22 +44,13 @@ pub record WholeAsked (inputs nodes : ℕ) (order luts cuts outputs : List ℕ) 
   pub depths_long : nodes ≤ length depths
 
 -- The reply, and the scratch: its first `nodes` entries are left at 0.
-pub record WholeAnswered (inputs nodes : ℕ) (luts cuts outputs labels : List ℕ) (depth : ℕ) (wanted depths : List ℕ) (r : WholeJudged)
+pub record WholeAnswered (inputs nodes : ℕ) (luts cuts outputs labels : List ℕ) (depth : ℕ) (wanted depths : List ℕ) (r : Result ⊤ WholeFault)
     (wanted' depths' : List ℕ) : Type 0 where
   pub reply : WholeRuled (net_in inputs nodes cuts) outputs (luts_in inputs nodes cuts luts) (λ v. get_or labels v 0) depth r
   pub wanted_clear : wanted' ≡ cleared nodes wanted
   pub depths_clear : depths' ≡ cleared nodes depths
 
 -- The steps of 28
-
-pub record LeavesFit (luts cuts : List ℕ) (v room : ℕ) : Type 0 where
-  pub gates : GatesFit cuts (7 * v + 1) (size_at cuts v) room
-  pub luts_long : v < length luts
-
--- the leaves of a root that are gates are marked
-pub record LeavesWanted (luts cuts : List ℕ) (v inputs : ℕ) (before after : List ℕ) : Type 0 where
-  pub root : get_or luts v 0 ≡ 1 → GatesMarked cuts (7 * v + 1) (size_at cuts v) inputs before after
-  pub other : (get_or luts v 0 ≡ 1 → ⊥) → after ≡ before
 
 pub record CoverAsked (inputs nodes : ℕ) (luts cuts outputs : List ℕ) (number room : ℕ) : Type 0 where
   pub span : inputs ≤ nodes
@@ -87,12 +79,12 @@ pub record Comparable (inputs nodes : ℕ) (luts wanted : List ℕ) : Type 0 whe
   pub wanted_long : nodes ≤ length wanted
 
 -- the lowest gate at which roots and marks differ
-pub data Compared (inputs nodes : ℕ) (luts wanted : List ℕ) : WholeJudged → Type 0 where
-  same : ((v : ℕ) → inputs ≤ v → v < nodes → get_or luts v 0 ≡ get_or wanted v 0) → Compared inputs nodes luts wanted judged.Kept
+pub data Compared (inputs nodes : ℕ) (luts wanted : List ℕ) : Option Node → Type 0 where
+  same : ((v : ℕ) → inputs ≤ v → v < nodes → get_or luts v 0 ≡ get_or wanted v 0) → Compared inputs nodes luts wanted None
   differ : {v : ℕ} → inputs ≤ v → v < nodes → ((w : ℕ) → inputs ≤ w → w < v → get_or luts w 0 ≡ get_or wanted w 0) →
-      (get_or luts v 0 ≡ get_or wanted v 0 → ⊥) → Compared inputs nodes luts wanted (judged.Cover (record { id = v }))
+      (get_or luts v 0 ≡ get_or wanted v 0 → ⊥) → Compared inputs nodes luts wanted (Some (record { id = v }))
 
-pub record CoverTold (inputs nodes : ℕ) (luts cuts outputs before : List ℕ) (r : WholeJudged) (after : List ℕ) : Type 0 where
+pub record CoverTold (inputs nodes : ℕ) (luts cuts outputs before : List ℕ) (r : Option Node) (after : List ℕ) : Type 0 where
   pub reply : CoverRuled (net_in inputs nodes cuts) outputs (luts_in inputs nodes cuts luts) r
   pub clear : after ≡ cleared nodes before
 

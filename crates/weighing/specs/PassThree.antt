@@ -1,5 +1,5 @@
 -- Pass three: "25, 29 on each LUT", LUTs rising.
-use Rattle.std.specs.Prelude.{ℕ, ◌+◌, ◌*◌, ◌≤◌, ◌<◌, ◌≡◌, Bool, true, List, length, get_or}
+use Rattle.std.specs.Prelude.{ℕ, ◌+◌, ◌*◌, ◌≤◌, ◌<◌, ◌≡◌, Bool, true, List, length, get_or, ⊤, Result, Ok, Err}
 use Rattle.storage.specs.Entries.{cleared, Beyond}
 use Rattle.storage.specs.Marks.{Tells}
 use Rattle.storage.specs.Lists.{size_at, list_at}
@@ -9,8 +9,8 @@ use Rattle.theory.specs.paper.Walk.{Cut}
 use Rattle.theory.specs.paper.Cover.{Luts}
 use Rattle.theory.specs.paper.Lookup.{ConeTable}
 use Rattle.covering.specs.Covers.{luts_in}
-use Rattle.weighing.specs.declared.luts.LutsJudged.{LutsJudged}
-use Rattle.weighing.specs.declared.luts.LutsJudged.TheVariants as judged
+use Rattle.weighing.specs.declared.luts.LutFault.{LutFault}
+use Rattle.weighing.specs.declared.luts.LutFault.TheVariants as fault
 use Rattle.weighing.specs.Laid.{LutsLaid}
 
 -- 25 and 29, kept at a root: its leaves are a cut, and its table is its cone's, with no bit above its rows
@@ -24,18 +24,18 @@ module _ (net : Net) (tables : ℕ → ℕ) (k : ℕ) (luts : Luts) (table : ℕ
   KeptBelow v = (r : ℕ) → r < v → luts.root r ≡ true → LutKept net tables k luts table r
 
   -- The reply of pass three: the first LUT, roots rising, that breaks a rule, and 25 before 29.
-  pub data LutsRuled : LutsJudged → Type 0 where
-    kept : ((r : ℕ) → luts.root r ≡ true → LutKept net tables k luts table r) → LutsRuled judged.Kept
-    cut : {r : ℕ} → luts.root r ≡ true → KeptBelow r → (Cut net k r (luts.leaves r) → ⊥) → LutsRuled (judged.Cut (record { id = r }))
+  pub data LutsRuled : Result ⊤ LutFault → Type 0 where
+    kept : ((r : ℕ) → luts.root r ≡ true → LutKept net tables k luts table r) → LutsRuled (Ok tt)
+    cut : {r : ℕ} → luts.root r ≡ true → KeptBelow r → (Cut net k r (luts.leaves r) → ⊥) → LutsRuled (Err (fault.Cut (record { id = r })))
     function : {r : ℕ} → luts.root r ≡ true → KeptBelow r → Cut net k r (luts.leaves r) →
-        (ConeTable net tables (luts.leaves r) r (table r) → ⊥) → LutsRuled (judged.Function (record { id = r }))
+        (ConeTable net tables (luts.leaves r) r (table r) → ⊥) → LutsRuled (Err (fault.Function (record { id = r })))
 
   -- what is said of one node: where it is a root, whether its LUT keeps 25, then 29
-  pub data NodeRuled (r : ℕ) : LutsJudged → Type 0 where
-    kept : (luts.root r ≡ true → LutKept net tables k luts table r) → NodeRuled r judged.Kept
-    cut : luts.root r ≡ true → (Cut net k r (luts.leaves r) → ⊥) → NodeRuled r (judged.Cut (record { id = r }))
+  pub data NodeRuled (r : ℕ) : Result ⊤ LutFault → Type 0 where
+    kept : (luts.root r ≡ true → LutKept net tables k luts table r) → NodeRuled r (Ok tt)
+    cut : luts.root r ≡ true → (Cut net k r (luts.leaves r) → ⊥) → NodeRuled r (Err (fault.Cut (record { id = r })))
     function : luts.root r ≡ true → Cut net k r (luts.leaves r) → (ConeTable net tables (luts.leaves r) r (table r) → ⊥) →
-        NodeRuled r (judged.Function (record { id = r }))
+        NodeRuled r (Err (fault.Function (record { id = r })))
 
 -- The arrays hold a drawing with its order, LUTs and their tables, and there is room to walk and to evaluate.
 pub record LutsAsked (inputs nodes k : ℕ) (fanins rows order luts cuts tables roles values : List ℕ) : Type 0 where
@@ -47,7 +47,7 @@ pub record LutsAsked (inputs nodes k : ℕ) (fanins rows order luts cuts tables 
   pub values_long : nodes ≤ length values
 
 -- The reply, and the scratch: its first `nodes` entries are left at 0.
-pub record LutsAnswered (inputs nodes k : ℕ) (fanins rows luts cuts tables roles values : List ℕ) (r : LutsJudged) (roles' values' : List ℕ) : Type 0 where
+pub record LutsAnswered (inputs nodes k : ℕ) (fanins rows luts cuts tables roles values : List ℕ) (r : Result ⊤ LutFault) (roles' values' : List ℕ) : Type 0 where
   pub reply : LutsRuled (net_in inputs nodes fanins) (tables_in rows) k (luts_in inputs nodes cuts luts) (tables_in tables) r
   pub roles_clear : roles' ≡ cleared nodes roles
   pub values_clear : values' ≡ cleared nodes values
@@ -84,14 +84,14 @@ pub record FunctionTold (inputs nodes : ℕ) (fanins rows cuts tables : List ℕ
   pub reply : Tells (ConeTable (net_in inputs nodes fanins) (tables_in rows) (list_at cuts v) v (get_or tables v 0)) r
   pub rest : Beyond nodes values values'
 
-pub record NodeJudged (inputs nodes k : ℕ) (fanins rows luts cuts tables : List ℕ) (v : ℕ) (roles values : List ℕ) (r : LutsJudged) (roles' values' : List ℕ) :
+pub record NodeJudged (inputs nodes k : ℕ) (fanins rows luts cuts tables : List ℕ) (v : ℕ) (roles values : List ℕ) (r : Result ⊤ LutFault) (roles' values' : List ℕ) :
     Type 0 where
   pub reply : NodeRuled (net_in inputs nodes fanins) (tables_in rows) k (luts_in inputs nodes cuts luts) (tables_in tables) v r
   pub roles_rest : Beyond nodes roles roles'
   pub values_rest : Beyond nodes values values'
 
 -- all nodes, before the scratch is cleared
-pub record FirstJudged (inputs nodes k : ℕ) (fanins rows luts cuts tables roles values : List ℕ) (r : LutsJudged) (roles' values' : List ℕ) : Type 0 where
+pub record FirstJudged (inputs nodes k : ℕ) (fanins rows luts cuts tables roles values : List ℕ) (r : Result ⊤ LutFault) (roles' values' : List ℕ) : Type 0 where
   pub reply : LutsRuled (net_in inputs nodes fanins) (tables_in rows) k (luts_in inputs nodes cuts luts) (tables_in tables) r
   pub roles_rest : Beyond nodes roles roles'
   pub values_rest : Beyond nodes values values'

@@ -1,6 +1,4 @@
 // Pass three: "25, 29 on each LUT", roots rising.
-ghost use Rattle.std.specs.Prelude.{◌≡◌};
-ghost use Rattle.storage.specs.Marks.{Tells};
 ghost use Rattle.weighing.specs.PassThree.{LutsAsked, LutsAnswered, FirstJudged, NodeAsked, NodeJudged, CutAsked, CutTold, FunctionAsked, FunctionTold};
 
 use covering::cones::cone_table;
@@ -8,10 +6,9 @@ use storage::lists::{PLACES, cut_size};
 use storage::{Node, Numbers, fill};
 use walking::is_cut;
 
-// All LUTs keep 25 and 29, or the first that does not, by its root.
+// The rule of a LUT that is broken, 25 or 29, with its root.
 #[derive(Clone, Copy)]
-pub enum LutsJudged {
-    Kept,
+pub enum LutFault {
     Cut(Node),
     Function(Node),
 }
@@ -85,7 +82,7 @@ fn judge_node(
     node: Node,
     roles: &mut [u8],
     values: &mut [u64],
-) -> LutsJudged
+) -> Result<(), LutFault>
     requires { NodeAsked numbers.inputs numbers.nodes numbers.k.leaves fanins.now rows.now order.now luts.now cuts.now
         tables.now roles.old values.old node.id }
     ensures { NodeJudged numbers.inputs numbers.nodes numbers.k.leaves fanins.now rows.now
@@ -94,25 +91,15 @@ fn judge_node(
 {
     let v = node.id as usize;
     if luts[v] != 1 {
-        return LutsJudged::Kept;
+        return Ok(());
     }
     if !leaves_cut(numbers, fanins, order, node, cuts, roles) {
-        return LutsJudged::Cut(node);
+        return Err(LutFault::Cut(node));
     }
     if !table_right(numbers, fanins, rows, order, node, cuts, tables, values) {
-        return LutsJudged::Function(node);
+        return Err(LutFault::Function(node));
     }
-    LutsJudged::Kept
-}
-
-fn is_kept(ruled: LutsJudged) -> bool
-    ensures { Tells (ruled ≡ LutsJudged.Kept) result }
-{
-    match ruled {
-        LutsJudged::Kept => true,
-        LutsJudged::Cut(_) => false,
-        LutsJudged::Function(_) => false,
-    }
+    Ok(())
 }
 
 // The nodes in turn, up to the first rule that is broken.
@@ -126,34 +113,20 @@ fn judge_nodes(
     tables: &[u64],
     roles: &mut [u8],
     values: &mut [u64],
-) -> LutsJudged
+) -> Result<(), LutFault>
     requires { LutsAsked numbers.inputs numbers.nodes numbers.k.leaves fanins.now rows.now order.now luts.now cuts.now
         tables.now roles.old values.old }
     ensures { FirstJudged numbers.inputs numbers.nodes numbers.k.leaves fanins.now rows.now
         luts.now cuts.now tables.now roles.old values.old result roles.new
         values.new }
 {
-    let nodes = numbers.nodes;
-    let mut v = numbers.inputs;
-    while v < nodes {
-        let ruled = judge_node(
-            numbers,
-            fanins,
-            rows,
-            order,
-            luts,
-            cuts,
-            tables,
-            Node { id: v as u16 },
-            roles,
-            values,
-        );
-        if !is_kept(ruled) {
-            return ruled;
-        }
-        v += 1;
+    for v in numbers.inputs..numbers.nodes {
+        let node = Node { id: v as u16 };
+        judge_node(
+            numbers, fanins, rows, order, luts, cuts, tables, node, roles, values,
+        )?;
     }
-    LutsJudged::Kept
+    Ok(())
 }
 
 // Pass three over the LUTs that the arrays hold. The scratch is left 0: a role a node for the walk, and a word a node for the cones' values.
@@ -167,7 +140,7 @@ pub fn judge_luts(
     tables: &[u64],
     roles: &mut [u8],
     values: &mut [u64],
-) -> LutsJudged
+) -> Result<(), LutFault>
     requires { LutsAsked numbers.inputs numbers.nodes numbers.k.leaves fanins.now rows.now order.now luts.now cuts.now
         tables.now roles.old values.old }
     ensures { LutsAnswered numbers.inputs numbers.nodes numbers.k.leaves fanins.now rows.now

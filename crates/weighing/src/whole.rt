@@ -1,32 +1,18 @@
 // Pass four, on the whole: "28, then 30".
-ghost use Rattle.std.specs.Prelude.{◌≡◌, length, take};
-ghost use Rattle.storage.specs.Marks.{Tells};
-ghost use Rattle.weighing.specs.PassFour.{WholeAsked, WholeAnswered, LeavesFit, LeavesWanted, CoverAsked, WantedMarked, Comparable, Compared, CoverTold};
+ghost use Rattle.std.specs.Prelude.{length, take};
+ghost use Rattle.weighing.specs.PassFour.{WholeAsked, WholeAnswered, CoverAsked, WantedMarked, Comparable, Compared, CoverTold};
 ghost use Rattle.weighing.specs.PassFour.{DepthFits, DepthSet, DepthsAsked, DepthsFound, DeepAsked, DeepTold};
 
-use covering::covers::{depth, mark_gates};
+use covering::covers::{depth, mark_gates, mark_leaves};
 use storage::lists::{PLACES, node_at, size_at};
 use storage::marks::{above, put_label};
 use storage::{Label, Node, Numbers, fill};
 
-// The whole keeps 28 and 30; or the lowest gate that breaks 28; or 30 is broken.
+// The rule of the whole that is broken: 28, with the lowest gate that breaks it, or 30.
 #[derive(Clone, Copy)]
-pub enum WholeJudged {
-    Kept,
+pub enum WholeFault {
     Cover(Node),
     Depth,
-}
-
-// The leaves of the LUT at a node, if there is one, are marked where they are gates.
-fn mark_leaves(luts: &[u8], cuts: &[u16], node: Node, inputs: usize, wanted: &mut [u8])
-    requires { LeavesFit luts.now cuts.now node.id (length wanted.old) }
-    ensures { LeavesWanted luts.now cuts.now node.id inputs wanted.old wanted.new }
-{
-    let v = node.id as usize;
-    if luts[v] != 1 {
-        return;
-    }
-    mark_gates(cuts, PLACES * v + 1, size_at(cuts, node), inputs, wanted);
 }
 
 // Marks the gates that are an output or a leaf of a listed LUT: one pass over the outputs, and one over the leaves.
@@ -41,27 +27,24 @@ fn mark_wanted(numbers: Numbers, luts: &[u8], cuts: &[u16], outputs: &[u16], wan
     let number = numbers.roots;
     fill(wanted, nodes, 0);
     mark_gates(outputs, 0, number, inputs, wanted);
-    let mut v = inputs;
-    while v < nodes {
-        mark_leaves(luts, cuts, Node { id: v as u16 }, inputs, wanted);
-        v += 1;
+    for v in inputs..nodes {
+        if luts[v] == 1 {
+            mark_leaves(cuts, Node { id: v as u16 }, inputs, wanted);
+        }
     }
 }
 
 // The lowest gate that is a root and not marked, or marked and no root.
-fn first_uncovered(numbers: Numbers, luts: &[u8], wanted: &[u8]) -> WholeJudged
+fn first_uncovered(numbers: Numbers, luts: &[u8], wanted: &[u8]) -> Option<Node>
     requires { Comparable numbers.inputs numbers.nodes luts.now wanted.now }
     ensures { Compared numbers.inputs numbers.nodes luts.now wanted.now result }
 {
-    let nodes = numbers.nodes;
-    let mut v = numbers.inputs;
-    while v < nodes {
+    for v in numbers.inputs..numbers.nodes {
         if luts[v] != wanted[v] {
-            return WholeJudged::Cover(Node { id: v as u16 });
+            return Some(Node { id: v as u16 });
         }
-        v += 1;
     }
-    WholeJudged::Kept
+    None
 }
 
 // 28: is each gate that an output or a LUT wants a root, and no other gate? Names the lowest for which it does not hold.
@@ -71,7 +54,7 @@ fn judge_wanted(
     cuts: &[u16],
     outputs: &[u16],
     wanted: &mut [u8],
-) -> WholeJudged
+) -> Option<Node>
     requires { CoverAsked numbers.inputs numbers.nodes luts.now cuts.now outputs.now numbers.roots
         (length wanted.old) }
     ensures { CoverTold numbers.inputs numbers.nodes luts.now cuts.now
@@ -105,10 +88,8 @@ fn find_depths(numbers: Numbers, order: &[u16], luts: &[u8], cuts: &[u16], depth
     let inputs = numbers.inputs;
     let nodes = numbers.nodes;
     let gates = nodes - inputs;
-    let mut i = 0;
-    while i < gates {
+    for i in 0..gates {
         set_depth(luts, cuts, node_at(order, i), depths);
-        i += 1;
     }
 }
 
@@ -132,16 +113,6 @@ fn cover_depth(
     reached
 }
 
-fn is_kept(ruled: WholeJudged) -> bool
-    ensures { Tells (ruled ≡ WholeJudged.Kept) result }
-{
-    match ruled {
-        WholeJudged::Kept => true,
-        WholeJudged::Cover(_) => false,
-        WholeJudged::Depth => false,
-    }
-}
-
 // Pass four over the LUTs, the outputs and the labels that the arrays hold; `head` is the depth of the sheet's head. The scratch is left 0.
 pub fn judge_whole(
     numbers: Numbers,
@@ -153,7 +124,7 @@ pub fn judge_whole(
     head: Label,
     wanted: &mut [u8],
     depths: &mut [u16],
-) -> WholeJudged
+) -> Result<(), WholeFault>
     requires { WholeAsked numbers.inputs numbers.nodes order.now luts.now cuts.now outputs.now numbers.roots labels.now
         wanted.old depths.old }
     ensures { WholeAnswered numbers.inputs numbers.nodes luts.now cuts.now
@@ -161,17 +132,16 @@ pub fn judge_whole(
         wanted.new depths.new }
 {
     fill(depths, numbers.nodes, 0);
-    let found = judge_wanted(numbers, luts, cuts, outputs, wanted);
-    if !is_kept(found) {
-        return found;
+    if let Some(gate) = judge_wanted(numbers, luts, cuts, outputs, wanted) {
+        return Err(WholeFault::Cover(gate));
     }
     let reached = cover_depth(numbers, order, luts, cuts, outputs, depths);
     if reached.depth != head.depth {
-        return WholeJudged::Depth;
+        return Err(WholeFault::Depth);
     }
     let labelled = depth(labels, outputs, numbers.roots);
     if labelled.depth != head.depth {
-        return WholeJudged::Depth;
+        return Err(WholeFault::Depth);
     }
-    WholeJudged::Kept
+    Ok(())
 }

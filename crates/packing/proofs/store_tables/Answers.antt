@@ -1,6 +1,6 @@
 -- `store_tables` meets its contract: the nodes passed have their tables.
 use native.Mathlib.Omega.{arith}
-use Rattle.packing.proofs.TablesStored.{tables_none, words_room, table_asked, tables_turn}
+use Rattle.packing.proofs.TablesStored.{tables_none, table_asked, tables_turn}
 use Rattle.packing.proofs.TablesStored.{tables_all}
 use Rattle.packing.proofs.store_tables.Goals as goal
 
@@ -14,49 +14,11 @@ loop-v-init c =
     let pre = c.requires in
     tables_none pre c.fill.ensures
 
-pub overflow_cast-gate : goal.overflow_cast-gate
-overflow_cast-gate c =
-    let pre = c.requires in
-    omega (arith, c.loop-v-test.true, pre.arrays.drawing.small)
-
 pub table_of-table-requires : goal.table_of-table-requires
 table_of-table-requires c =
     let loop = c.loop-v in
     let pre = c.requires in
     table_asked pre c.fill.ensures loop.invariant c.loop-v-test.true
-
-pub overflow_add-at : goal.overflow_add-at
-overflow_add-at c =
-    let loop-test = c.loop-v-test in
-    let pre = c.requires in
-    omega (arith, loop-test.true, pre.arrays.drawing.small)
-
-pub offset_bounds-words-at : goal.offset_bounds-words-at
-offset_bounds-words-at c =
-    let loop-test = c.loop-v-test in
-    let loop = c.loop-v in
-    let pre = c.requires in
-    let room = words_room pre c.fill.ensures loop.invariant in
-    omega (arith, loop-test.true, pre.arrays.drawing.small)
-
-pub bounds-words-at : goal.bounds-words-at
-bounds-words-at c =
-    let loop-test = c.loop-v-test in
-    let loop = c.loop-v in
-    let pre = c.requires in
-    let room = words_room pre c.fill.ensures loop.invariant in
-    rw c.table_of-table.ensures.kept (omega (arith, loop-test.true))
-
-pub overflow_add-v : goal.overflow_add-v
-overflow_add-v c =
-    let loop-test = c.loop-v-test in
-    let pre = c.requires in
-    omega (arith, loop-test.true, pre.arrays.drawing.small)
-
-pub loop-v-smaller : goal.loop-v-smaller
-loop-v-smaller c =
-    let loop-test = c.loop-v-test in
-    omega (arith, loop-test.true)
 
 pub loop-v-preserved : goal.loop-v-preserved
 loop-v-preserved c =

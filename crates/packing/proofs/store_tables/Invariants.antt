@@ -1,10 +1,6 @@
 -- `store_tables` meets its contract: the nodes passed have their tables.
-use Prim.Native.Nat.{◌-◌}
 use Rattle.packing.proofs.TablesStored.{TablesSoFar}
 use Rattle.packing.proofs.store_tables.Given as goal
 
 abbrev pub invariant-loop-v : goal.invariant-loop-v
 invariant-loop-v l = TablesSoFar l.numbers.inputs l.numbers.nodes l.fanins l.rows l.cuts l.luts l.initial.words l.words l.v
-
-abbrev pub decreases-loop-v : goal.decreases-loop-v
-decreases-loop-v l = l.nodes - l.v

@@ -9,11 +9,6 @@ use Rattle.covering.proofs.ConeRows.{leaves_fit, rows_few, gate_stands, sweep_fi
 use Rattle.covering.proofs.ConeRows.{table_fits_rows, rows_none, rows_more, rows_all}
 use Rattle.covering.proofs.cones.cone_table.Goals as goal
 
-pub fill-requires : goal.fill-requires
-fill-requires c =
-    let pre = c.requires in
-    pre.values_long
-
 pub place_of-upto-requires : goal.place_of-upto-requires
 place_of-upto-requires c =
     let pre = c.requires in
@@ -23,11 +18,6 @@ pub overflow_add-upto : goal.overflow_add-upto
 overflow_add-upto c =
     let pre = c.requires in
     omega (arith, upto_gates pre c.place_of-upto.result c.place_of-upto.ensures)
-
-pub rows_of-all-requires : goal.rows_of-all-requires
-rows_of-all-requires c =
-    let pre = c.requires in
-    (leaves_fit pre).few
 
 pub loop-row-init : goal.loop-row-init
 loop-row-init c =
@@ -52,13 +42,6 @@ sweep-requires c =
     rw (c.set_leaves.ensures.long, loop.invariant.rest.size, same)
     (sweep_fits p (c.place_of-upto.result + 1) (upto_gates p c.place_of-upto.result c.place_of-upto.ensures))
 
-pub offset_bounds-values-at : goal.offset_bounds-values-at
-offset_bounds-values-at c =
-    let a = c.args in
-    let p = c.requires in
-    let low = gate_below a.numbers.inputs a.numbers.nodes a.fanins.now p.gate in
-    omega (arith, p.values_long, c.well_formed)
-
 pub bounds-values-at : goal.bounds-values-at
 bounds-values-at c =
     let loop = c.loop-row in
@@ -75,12 +58,6 @@ with_row-table-requires c =
     let pre = c.requires in
     record { row_bound = rows_few pre loop-test.true c.rows_of-all.ensures; table_bound = table_fits_rows pre loop.invariant; res_bound = omega arith }
 
-pub overflow_add-row : goal.overflow_add-row
-overflow_add-row c =
-    let loop-test = c.loop-row-test in
-    let pre = c.requires in
-    omega (arith, rows_few pre loop-test.true c.rows_of-all.ensures)
-
 pub loop-row-preserved : goal.loop-row-preserved
 loop-row-preserved c =
     let loop-test = c.loop-row-test in
@@ -89,29 +66,11 @@ loop-row-preserved c =
     rows_more pre loop.invariant c.place_of-upto.result c.place_of-upto.ensures (omega (arith, loop-test.true, c.rows_of-all.ensures))
     c.set_leaves.ensures c.sweep.ensures c.with_row-table.ensures
 
-pub fill-requires-2 : goal.fill-requires-2
-fill-requires-2 c =
-    let loop = c.loop-row in
-    let a = c.args in
-    let p = c.requires in
-    let same = ap length c.fill.ensures ∙ cleared_size a.numbers.nodes a.values.now p.values_long in
-    rw (loop.invariant.rest.size, same) p.values_long
-
-pub shape_of-values : goal.shape_of-values
-shape_of-values c =
-    let loop = c.loop-row in
-    let a = c.args in
-    let p = c.requires in
-    let same = ap length c.fill.ensures ∙ cleared_size a.numbers.nodes a.values.now p.values_long in
-    let last = ap length c.fill-2.ensures
-    ∙ cleared_size a.numbers.nodes loop.values (rw (loop.invariant.rest.size, same) p.values_long) in
-    last ∙ loop.invariant.rest.size ∙ same
-
 pub returns : goal.returns
 returns c =
     let loop-test = c.loop-row-test in
     let a = c.args in
     let p = c.requires in
     let l = c.loop-row in
-    rows_all p l.invariant (omega (arith, loop-test.false, c.rows_of-all.ensures, l.invariant.passed)) a.values.now
+    rows_all p l.invariant (omega (arith, loop-test.false, c.rows_of-all.ensures, l.auto.row-end)) a.values.now
     p.values_long c.fill.ensures c.fill-2.ensures

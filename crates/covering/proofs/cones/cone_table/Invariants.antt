@@ -1,10 +1,6 @@
 -- `cone_table` meets its contract: row by row, the table is that of the cone.
-use Prim.Native.Nat.{◌-◌}
 use Rattle.covering.proofs.ConeRows.{RowsMade}
 use Rattle.covering.proofs.cones.cone_table.Given as goal
 
 abbrev pub invariant-loop-row : goal.invariant-loop-row
 invariant-loop-row l = RowsMade l.numbers.inputs l.numbers.nodes l.fanins l.rows l.at l.leaves l.size.leaves l.initial.values l.row l.table l.values
-
-abbrev pub decreases-loop-row : goal.decreases-loop-row
-decreases-loop-row l = l.all - l.row

@@ -9,7 +9,7 @@ use Rattle.covering.proofs.cones.row_of.Goals as goal
 pub loop-i-init : goal.loop-i-init
 loop-i-init c =
     let a = c.args in
-    (omega arith, sym (row_from_end a.ids.now a.at a.many a.values.now c.requires.inside))
+    sym (row_from_end a.ids.now a.at a.many a.values.now c.requires.inside)
 
 pub overflow_mul-row : goal.overflow_mul-row
 overflow_mul-row c =
@@ -19,27 +19,8 @@ overflow_mul-row c =
     omega (
       arith,
       row_from_small a.ids.now a.at a.many a.values.now p.inside l.i p.few,
-      l.invariant.1,
+      l.invariant,
     )
-
-pub overflow_cast-row : goal.overflow_cast-row
-overflow_cast-row c =
-    omega (arith, c.type_inv.ids (c.args.at + (c.loop-i.i - 1)))
-
-pub offset_bounds-values-ids : goal.offset_bounds-values-ids
-offset_bounds-values-ids c =
-    let a = c.args in
-    let p = c.requires in
-    let l = c.loop-i in
-    let low = p.nodes (l.i - 1) (omega arith) in
-    omega (arith, c.well_formed)
-
-pub bounds-values-ids : goal.bounds-values-ids
-bounds-values-ids c =
-    let a = c.args in
-    let p = c.requires in
-    let l = c.loop-i in
-    p.nodes (l.i - 1) (omega arith)
 
 pub overflow_add-row-in-loop-i : goal.overflow_add-row-in-loop-i
 overflow_add-row-in-loop-i c =
@@ -49,7 +30,7 @@ overflow_add-row-in-loop-i c =
     omega (
       arith,
       row_from_small a.ids.now a.at a.many a.values.now p.inside l.i p.few,
-      l.invariant.1,
+      l.invariant,
     )
 
 pub loop-i-preserved : goal.loop-i-preserved
@@ -59,14 +40,6 @@ loop-i-preserved c =
     let l = c.loop-i in
     let one : l.i - 1 + 1 ≡ l.i = omega arith in
     let turn = row_from_more a.ids.now a.at a.many a.values.now p.inside (l.i - 1) (omega arith) in
-    let so_far = l.invariant.1 ∙ ap (row_from a.ids.now a.at a.many a.values.now) (sym one) in
+    let so_far = l.invariant ∙ ap (row_from a.ids.now a.at a.many a.values.now) (sym one) in
     let digit = get_or a.values.now (get_or a.ids.now (a.at + (l.i - 1)) 0) 0 % 2 in
-    (omega arith, ap (λ (r : ℕ). 2 * r + digit) so_far ∙ sym turn)
-
-pub returns : goal.returns
-returns c =
-    let a = c.args in
-    let p = c.requires in
-    let l = c.loop-i in
-    let none : l.i ≡ 0 = omega arith in
-    l.invariant.1 ∙ ap (row_from a.ids.now a.at a.many a.values.now) none
+    ap (λ (r : ℕ). 2 * r + digit) so_far ∙ sym turn

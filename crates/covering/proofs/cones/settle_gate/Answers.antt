@@ -1,12 +1,6 @@
 -- `settle_gate` meets its contract: the result stored is that of the row which the fanins' values make.
-use Rattle.covering.proofs.Sweeps.{part_fits, gate_row, gate_row_small, gate_stored_lem, leaf_kept}
+use Rattle.covering.proofs.Sweeps.{gate_row, gate_row_small, gate_stored_lem}
 use Rattle.covering.proofs.cones.settle_gate.Goals as goal
-
-pub row_of-row-requires : goal.row_of-row-requires
-row_of-row-requires c =
-    let a = c.args in
-    part_fits a.fanins.now a.rows.now a.gate.id a.values.now c.size_at.ensures
-    c.requires.row
 
 pub result_at-requires : goal.result_at-requires
 result_at-requires c =
@@ -22,8 +16,3 @@ returns-then-values-v-lt2 c =
     c.row_of-row.ensures c.size_at.ensures c.requires.row.few in
     gate_stored_lem a.fanins.now a.rows.now a.gate.id a.values.now row c.result_at.ensures
     c.if-values-v-lt2.true
-
-pub returns-else-values-v-lt2 : goal.returns-else-values-v-lt2
-returns-else-values-v-lt2 c =
-    let a = c.args in
-    leaf_kept a.fanins.now a.rows.now a.gate.id a.values.now c.if-values-v-lt2.false

@@ -1,10 +1,6 @@
 -- `sweep` meets its contract: the gates passed have their results.
-use Prim.Native.Nat.{◌≤◌, ◌-◌}
 use Rattle.covering.specs.Cones.{Swept}
 use Rattle.covering.proofs.cones.sweep.Given as goal
 
 abbrev pub invariant-loop-i : goal.invariant-loop-i
-invariant-loop-i l = (l.i ≤ l.upto) × Swept l.fanins l.rows l.order l.i l.initial.values l.values
-
-abbrev pub decreases-loop-i : goal.decreases-loop-i
-decreases-loop-i l = l.upto - l.i
+invariant-loop-i l = Swept l.fanins l.rows l.order l.i l.initial.values l.values

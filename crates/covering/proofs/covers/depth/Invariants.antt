@@ -1,11 +1,9 @@
--- `depth` meets its contract: from the last output back, the label kept is the greatest so far.
-use Prim.Native.Nat.{◌≤◌}
+-- `depth` meets its contract: the label kept is the greatest of the outputs passed.
 use mathlib.Core.Path.{◌≡◌}
-use Rattle.covering.proofs.Marking.{greatest_from}
+use mathlib.Core.List.{map}
+use lib.ListN.{get_or, take}
+use Rattle.theory.specs.paper.Lists.{greatest}
 use Rattle.covering.proofs.covers.depth.Given as goal
 
-abbrev pub invariant-loop-i : goal.invariant-loop-i
-invariant-loop-i l = (l.i ≤ l.number) × (l.best.depth ≡ greatest_from l.labels l.outputs l.number l.i)
-
-abbrev pub decreases-loop-i : goal.decreases-loop-i
-decreases-loop-i l = l.i
+abbrev pub invariant-loop-id : goal.invariant-loop-id
+invariant-loop-id l = l.best.depth ≡ greatest (map (λ v. get_or l.labels v 0) (take l.id-index l.id-items))

@@ -1,10 +1,6 @@
 -- `mark_gates` meets its contract: the gates among the nodes passed are marked.
-use Prim.Native.Nat.{◌≤◌, ◌-◌}
 use Rattle.covering.specs.Covers.{GatesMarked}
 use Rattle.covering.proofs.covers.mark_gates.Given as goal
 
-abbrev pub invariant-loop-i : goal.invariant-loop-i
-invariant-loop-i l = (l.i ≤ l.many) × GatesMarked l.ids l.at l.i l.inputs l.initial.marks l.marks
-
-abbrev pub decreases-loop-i : goal.decreases-loop-i
-decreases-loop-i l = l.many - l.i
+abbrev pub invariant-loop-id : goal.invariant-loop-id
+invariant-loop-id l = GatesMarked l.ids l.at l.id-index l.inputs l.initial.marks l.marks

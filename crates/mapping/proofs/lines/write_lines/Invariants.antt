@@ -1,11 +1,7 @@
 -- `write_lines` meets its contract: the lines of the gates passed are written.
-use Prim.Native.Nat.{◌-◌}
 use Rattle.mapping.proofs.LinesWritten.{LinesSoFar}
 use Rattle.mapping.proofs.lines.write_lines.Given as goal
 
 abbrev pub invariant-loop-v : goal.invariant-loop-v
 invariant-loop-v l = LinesSoFar l.form l.numbers.inputs l.numbers.nodes l.numbers.k.leaves l.fanins l.labels l.cuts l.initial.roles l.initial.links l.initial.sheet l.at
     l.roles l.links l.sheet l.to l.v
-
-abbrev pub decreases-loop-v : goal.decreases-loop-v
-decreases-loop-v l = l.nodes - l.v

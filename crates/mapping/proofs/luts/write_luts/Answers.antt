@@ -1,6 +1,4 @@
 -- `write_luts` meets its contract: the LUTs of the nodes passed are written.
-use native.Mathlib.Omega.{arith}
-use Rattle.sheet.proofs.Writes.{same_size}
 use Rattle.mapping.proofs.LutsWritten.{luts_none, lut_asked, luts_turn, luts_all}
 use Rattle.mapping.proofs.luts.write_luts.Goals as goal
 
@@ -9,32 +7,17 @@ loop-v-init c =
     let a = c.args in
     luts_none a.form a.cuts.now a.luts.now a.tables.now a.nodes a.sheet.now a.at
 
-pub overflow_cast-root : goal.overflow_cast-root
-overflow_cast-root c =
-    omega (arith, c.loop-v-test.true, c.requires.small)
-
 pub write_lut-to-requires : goal.write_lut-to-requires
 write_lut-to-requires c =
     let a = c.args in
     lut_asked a.form a.cuts.now a.luts.now a.tables.now c.loop-v.invariant
     c.requires c.loop-v-test.true
 
-pub overflow_add-v : goal.overflow_add-v
-overflow_add-v c =
-    omega (arith, c.loop-v-test.true, c.requires.small)
-
-pub loop-v-smaller : goal.loop-v-smaller
-loop-v-smaller c =
-    omega (arith, c.loop-v-test.true)
-
 pub loop-v-preserved : goal.loop-v-preserved
 loop-v-preserved c =
     let a = c.args in
     luts_turn a.form a.cuts.now a.luts.now a.tables.now c.loop-v.invariant
     c.loop-v-test.true c.write_lut-to.ensures
-
-pub shape_of-sheet : goal.shape_of-sheet
-shape_of-sheet c = same_size c.loop-v.invariant.written
 
 pub returns : goal.returns
 returns c =

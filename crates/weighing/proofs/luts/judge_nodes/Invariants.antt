@@ -1,11 +1,7 @@
 -- `judge_nodes` meets its contract: the LUTs at the nodes passed keep both rules.
-use Prim.Native.Nat.{◌-◌}
 use Rattle.weighing.proofs.Rulings.{NodesPassed}
 use Rattle.weighing.proofs.luts.judge_nodes.Given as goal
 
 abbrev pub invariant-loop-v : goal.invariant-loop-v
 invariant-loop-v l = NodesPassed l.numbers.inputs l.numbers.nodes l.numbers.k.leaves l.fanins l.rows l.luts l.cuts l.tables l.initial.roles l.initial.values
     l.v l.roles l.values
-
-abbrev pub decreases-loop-v : goal.decreases-loop-v
-decreases-loop-v l = l.nodes - l.v

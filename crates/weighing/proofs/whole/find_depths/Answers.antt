@@ -25,17 +25,6 @@ set_depth-requires c =
     let pre = c.requires in
     rw c.node_at.ensures (depth_fits pre loop.i loop-test.true loop.invariant)
 
-pub overflow_add-i : goal.overflow_add-i
-overflow_add-i c =
-    let loop-test = c.loop-i-test in
-    let pre = c.requires in
-    omega (arith, pre.small, loop-test.true)
-
-pub loop-i-smaller : goal.loop-i-smaller
-loop-i-smaller c =
-    let loop-test = c.loop-i-test in
-    omega (arith, loop-test.true)
-
 pub loop-i-preserved : goal.loop-i-preserved
 loop-i-preserved c =
     let loop-test = c.loop-i-test in

@@ -3,7 +3,8 @@ use native.Mathlib.Omega.{arith}
 use mathlib.Core.Path.{refl, ap, ◌∙◌}
 use lib.ListN.{length}
 use Rattle.storage.proofs.Clears.{cleared_size}
-use Rattle.weighing.proofs.Wanted.{outputs_fit, wanted_begin, leaves_fit, wanted_more, wanted_all}
+use Rattle.weighing.proofs.Wanted.{outputs_fit, wanted_begin, leaves_fit, wanted_root, wanted_other, wanted_all}
+use Rattle.weighing.proofs.whole.mark_wanted.Goals.{then-luts-v-eq1, else-luts-v-eq1}
 use Rattle.weighing.proofs.whole.mark_wanted.Goals as goal
 
 pub fill-requires : goal.fill-requires
@@ -24,11 +25,6 @@ loop-v-init c =
     let pre = c.requires in
     wanted_begin pre args.wanted.now refl c.fill.ensures c.mark_gates.ensures
 
-pub overflow_cast-v : goal.overflow_cast-v
-overflow_cast-v c =
-    let pre = c.requires in
-    omega (arith, pre.small)
-
 pub mark_leaves-requires : goal.mark_leaves-requires
 mark_leaves-requires c =
     let a = c.args in
@@ -36,19 +32,16 @@ mark_leaves-requires c =
     let l = c.loop-v in
     let same = ap length c.fill.ensures ∙ cleared_size a.numbers.nodes a.wanted.now p.wanted_long in
     rw (l.invariant.rest.size, c.mark_gates.ensures.long, same)
-    (leaves_fit p l.invariant.above c.loop-v-test.true)
-
-pub overflow_add-v : goal.overflow_add-v
-overflow_add-v c =
-    let pre = c.requires in
-    omega (arith, pre.small)
+    (leaves_fit p l.auto.v c.loop-v-test.true)
 
 pub loop-v-preserved : goal.loop-v-preserved
 loop-v-preserved c =
-    let loop-test = c.loop-v-test in
-    let pre = c.requires in
+    let p = c.requires in
     let l = c.loop-v in
-    wanted_more pre l.invariant.above loop-test.true l.invariant c.mark_leaves.ensures
+    elim c.if-luts-v-eq1.branch [
+      | then-luts-v-eq1 w ↦ rw w.wanted-is (wanted_root p l.auto.v c.loop-v-test.true l.invariant w.if-luts-v-eq1.true w.mark_leaves.ensures)
+      | else-luts-v-eq1 w ↦ rw w.wanted-is (wanted_other p l.auto.v c.loop-v-test.true l.invariant w.if-luts-v-eq1.false)
+    ]
 
 pub shape_of-wanted : goal.shape_of-wanted
 shape_of-wanted c =
