@@ -4,7 +4,7 @@ use native.Mathlib.Omega.{arith}
 use lib.ListN.{length}
 use borrow.Author.Tests.{lt-ltb, le-ltb}
 use Rattle.drawing.specs.paper.Limits.{frame_size}
-use Rattle.shaping.specs.declared.fields.Field.TheVariants.{Begun}
+use Rattle.std.specs.Prelude.{Some}
 use Rattle.shaping.proofs.fields.field_at.Goals as goal
 
 pub returns-then-sheet-at-lt-FRAME : goal.returns-then-sheet-at-lt-FRAME
@@ -14,4 +14,4 @@ returns-then-sheet-at-lt-FRAME c =
 pub returns : goal.returns
 returns c =
     rw (le-ltb (length c.args.sheet.now - c.args.at) frame_size (omega arith))
-    (λ i. Begun (record { tag = c.byte_at.ensures.byte i; size = c.length_at.ensures i }))
+    (λ i. Some (record { tag = c.byte_at.ensures.byte i; size = c.length_at.ensures i }))
