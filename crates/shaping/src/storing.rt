@@ -40,10 +40,8 @@ fn put_list(sheet: &[u8], at: usize, width: usize, size: CutSize, cuts: &mut [u1
     ensures { Filled cuts.old (7 * node.id) (7 * node.id + 7) (λ i. get_or (counted (ids_at sheet.now at width size.leaves)) (i - 7 * node.id) 0) cuts.new }
 {
     let base = PLACES * (node.id as usize);
-    let mut i = 0;
-    while i < PLACES {
+    for i in 0..PLACES {
         cuts[base + i] = list_place(sheet, at, width, size, i);
-        i += 1;
     }
 }
 

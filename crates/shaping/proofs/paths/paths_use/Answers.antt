@@ -1,19 +1,24 @@
 -- `paths_use` meets its contract: the paths use the value up if those from here on use up what is left.
-use mathlib.Core.Path.{refl, sym, ◌∙◌}
+use Prim.Native.Nat.{ℕ, ◌+◌, ◌*◌, ◌-◌}
+use mathlib.Core.Path.{◌≡◌, ap, sym, ◌∙◌}
+use Rattle.sheet.specs.paper.Shape.{paths_use}
 use Rattle.drawing.proofs.Ids.{twice}
 use Rattle.shaping.proofs.PathLists.{use_none, use_torn, use_past, use_next}
 use native.Mathlib.Omega.{arith}
 use Rattle.shaping.proofs.paths.paths_use.Goals as goal
 
-pub loop-left-init : goal.loop-left-init
-loop-left-init c = (omega arith, refl)
+pub loop-init : goal.loop-init
+loop-init c =
+    let a = c.args in
+    let all : a.count ≡ a.count - 0 = omega arith in
+    (c.requires.at_le_end, ap (λ (n : ℕ). paths_use a.sheet.now a.at a.width n a.end) all)
 
 pub returns-then-end-next : goal.returns-then-end-next
 returns-then-end-next c =
     sym
-    (c.loop-left.invariant.1
-    ∙ use_torn c.args.sheet.now c.args.width c.loop-left.next
-    c.loop-left.left c.args.end (omega arith) (omega arith))
+    (c.loop.invariant.1
+    ∙ use_torn c.args.sheet.now c.args.width c.loop.next
+    (c.args.count - c.loop.counter) c.args.end (omega arith) (omega arith))
 
 pub small_at-requires : goal.small_at-requires
 small_at-requires c =
@@ -30,21 +35,23 @@ overflow_add-size c =
 pub returns-then-end-next-2 : goal.returns-then-end-next-2
 returns-then-end-next-2 c =
     sym
-    (c.loop-left.invariant.1
-    ∙ use_past c.args.sheet.now c.args.width c.loop-left.next c.loop-left.left
+    (c.loop.invariant.1
+    ∙ use_past c.args.sheet.now c.args.width c.loop.next (c.args.count - c.loop.counter)
     c.args.end c.small_at.ensures (omega arith) (omega arith) (omega arith))
 
-pub loop-left-preserved : goal.loop-left-preserved
-loop-left-preserved c = (
+pub loop-preserved : goal.loop-preserved
+loop-preserved c =
+    let fewer : c.args.count - c.loop.counter - 1 ≡ c.args.count - (c.loop.counter + 1) = omega arith in (
   omega arith,
-  c.loop-left.invariant.1
-      ∙ use_next c.args.sheet.now c.args.width c.loop-left.next c.loop-left.left
-      c.args.end c.small_at.ensures (omega arith) (omega arith),
+  c.loop.invariant.1
+      ∙ use_next c.args.sheet.now c.args.width c.loop.next (c.args.count - c.loop.counter)
+      c.args.end c.small_at.ensures (omega arith) (omega arith)
+      ∙ ap (λ (n : ℕ). paths_use c.args.sheet.now (c.loop.next + (c.args.width + c.small_at.result * c.args.width)) c.args.width n c.args.end) fewer,
 )
 
 pub returns : goal.returns
 returns c =
     sym
-    (c.loop-left.invariant.1
-    ∙ use_none c.args.sheet.now c.args.width c.loop-left.next c.loop-left.left
+    (c.loop.invariant.1
+    ∙ use_none c.args.sheet.now c.args.width c.loop.next (c.args.count - c.loop.counter)
     c.args.end (omega arith))
