@@ -57,10 +57,7 @@ fn follows(fanins: &[u16], node: Node, next: Node, roles: &[u8]) -> bool
     requires id_in_bounds_2 { next.id < length roles.now }
     ensures { result ≡ (is_member node.id (list_at fanins.now next.id) && is_marked (area_in roles.now) next.id) }
 {
-    if !feeds(fanins, node, next) {
-        return false;
-    }
-    is_free(roles, next)
+    feeds(fanins, node, next) && is_free(roles, next)
 }
 
 // Does the path go on from a node to its end, by the `size` ids from a place on?

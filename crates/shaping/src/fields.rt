@@ -126,10 +126,7 @@ fn line_uses(terms: Terms, sheet: &[u8], at: usize) -> bool
 fn is_path_count(count: usize, k: CutSize) -> bool
     ensures { result ≡ (eqb count 0 || eqb count (k.leaves + 1)) }
 {
-    if count == 0 {
-        return true;
-    }
-    count == k.leaves as usize + 1
+    count == 0 || count == k.leaves as usize + 1
 }
 
 fn line_in_range(terms: Terms, sheet: &[u8], at: usize) -> bool
@@ -186,10 +183,7 @@ fn lut_uses(terms: Terms, sheet: &[u8], at: usize) -> bool
         return false;
     }
     let leaves = size_at(sheet, at + FRAME + width).leaves as usize;
-    if width + COUNT_SIZE + leaves * width + ROWS_SIZE != size {
-        return false;
-    }
-    true
+    width + COUNT_SIZE + leaves * width + ROWS_SIZE == size
 }
 
 fn lut_in_range(terms: Terms, least: usize, sheet: &[u8], at: usize) -> bool
