@@ -67,16 +67,9 @@ fn head_in_range(terms: Terms, sheet: &[u8]) -> bool
     ensures { result ≡ not (head_out_of_range (due_of terms) sheet.now) }
 {
     let width = terms.form.width;
-    if small_at(sheet, VERSION_AT, VERSION_SIZE) != VERSION {
-        return false;
-    }
-    if terms.most.depth < label_at(sheet, DEPTH_AT, width).depth {
-        return false;
-    }
-    if terms.numbers.nodes - terms.numbers.inputs < small_at(sheet, DEPTH_AT + width, width) {
-        return false;
-    }
-    true
+    small_at(sheet, VERSION_AT, VERSION_SIZE) == VERSION
+        && label_at(sheet, DEPTH_AT, width).depth <= terms.most.depth
+        && small_at(sheet, DEPTH_AT + width, width) <= terms.numbers.nodes - terms.numbers.inputs
 }
 
 pub fn head_ruling(terms: Terms, sheet: &[u8], field: Option<Front>) -> Result<(), Fault>
@@ -194,13 +187,9 @@ fn lut_in_range(terms: Terms, least: usize, sheet: &[u8], at: usize) -> bool
 {
     let width = terms.form.width;
     let root = node_at(sheet, at + FRAME, width).id as usize;
-    if root < least {
-        return false;
-    }
-    if terms.numbers.nodes <= root {
-        return false;
-    }
-    leaves_in_range(terms, sheet, at + FRAME + width)
+    least <= root
+        && root < terms.numbers.nodes
+        && leaves_in_range(terms, sheet, at + FRAME + width)
 }
 
 // `least`: the lowest root that may follow.
