@@ -164,7 +164,7 @@ pub fn line_ruling(terms: Terms, sheet: &[u8], at: usize, field: Option<Front>) 
     Ok(())
 }
 
-// Do the counts of the LUT at `at` use its value up exactly?
+// Do the counts of the LUT at `at` use its value up exactly? What it shares with `line_uses` are two lines, which no function says plainer.
 fn lut_uses(terms: Terms, sheet: &[u8], at: usize) -> bool
     requires narrow { Narrow terms.form.width }
     requires at_in_bounds { end_at sheet.now at ≤ length sheet.now }
@@ -193,6 +193,7 @@ fn lut_in_range(terms: Terms, least: usize, sheet: &[u8], at: usize) -> bool
 }
 
 // `least`: the lowest root that may follow.
+// Not one function with `line_ruling`: its two tests, as closures, would each bring to the contract what they ask, which is no plainer.
 pub fn lut_ruling(terms: Terms, least: usize, sheet: &[u8], at: usize, field: Option<Front>) -> Result<(), Fault>
     requires narrow { Narrow terms.form.width }
     requires field_value { field ≡ field_at sheet.now at }

@@ -96,7 +96,8 @@ pub fn put_no_lut(sheet: &[u8], node: Node, luts: &mut [u8], cuts: &mut [u16], t
     put_list(sheet, 0, ID_SIZE, CutSize { leaves: 0 }, cuts, node);
 }
 
-// A root's entries, of its LUT at `at`.
+// A root's entries, of its LUT at `at`. What it shares with `put_line` is `put_list`; one function would need a trait for two pairs of types,
+// which is no plainer.
 pub fn put_lut(
     terms: Terms,
     sheet: &[u8],
