@@ -9,10 +9,6 @@ pub loop-t-init : goal.loop-t-init
 loop-t-init c =
     trying_starts c.requires
 
-pub overflow_cast-gate : goal.overflow_cast-gate
-overflow_cast-gate c =
-    omega (arith, c.requires.drawing.small)
-
 pub judge_gate-requires : goal.judge_gate-requires
 judge_gate-requires c = gate_asked c.requires c.loop-t.invariant _ refl (omega arith)
 

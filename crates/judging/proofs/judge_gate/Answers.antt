@@ -29,10 +29,6 @@ pub bounds-places-v : goal.bounds-places-v
 bounds-places-v c =
     place_inside c.requires
 
-pub overflow_cast-at : goal.overflow_cast-at
-overflow_cast-at c =
-    omega (arith, c.type_inv.places c.args.gate.id)
-
 pub keeps_paths-requires : goal.keeps_paths-requires
 keeps_paths-requires c =
     paths_rule_asked c.requires c.peak-p.ensures c.keeps_cut.ensures.walk.rest.size

@@ -6,13 +6,6 @@ use Rattle.judging.proofs.Runs.{Passing, passing_starts, size_asks, path_asked, 
 use Rattle.judging.proofs.Runs.{passing_stops, passing_ends}
 use Rattle.judging.proofs.paths.are_paths.Goals as goal
 
-pub loop-init : goal.loop-init
-loop-init c =
-    let a = c.args in
-    let all : a.q ≡ a.q - 0 = omega arith in
-    subst (λ (left : ℕ). Passing a.fanins.now a.inputs a.s.now a.at a.width a.q a.roles.now a.at left a.roles.now) all
-    (passing_starts c.requires)
-
 pub number_at-size-requires : goal.number_at-size-requires
 number_at-size-requires c = let asked = size_asks c.loop.invariant.stand (omega arith) in record { size_bound = asked.0; size_in_bounds = asked.1 }
 
@@ -22,11 +15,6 @@ overflow_add-from c = omega (arith, (size_asks c.loop.invariant.stand (omega ari
 pub is_path-requires : goal.is_path-requires
 is_path-requires c =
     path_asked c.loop.invariant (omega arith) c.number_at-size.ensures
-
-pub shape_of-roles-then-not-is_path : goal.shape_of-roles-then-not-is_path
-shape_of-roles-then-not-is_path c =
-    let l = c.loop in
-    omega (arith, l.invariant.long, c.is_path.auto)
 
 pub returns-then-not-is_path : goal.returns-then-not-is_path
 returns-then-not-is_path c =
@@ -54,9 +42,6 @@ loop-preserved c =
     fewer
     (passing_more l.invariant (omega arith) c.number_at-size.ensures (omega (arith, c.is_path.auto)) c.is_path.ensures
     c.if-not-is_path.false)
-
-pub shape_of-roles : goal.shape_of-roles
-shape_of-roles c = c.loop.invariant.long
 
 pub returns : goal.returns
 returns c = passing_ends c.loop.invariant (omega arith)
