@@ -1,5 +1,5 @@
 -- Rules 25, 26 and 27 at the gates: what each test asks and tells, and pass two.
-use Rattle.std.specs.Prelude.{Result, ℕ, suc, ◌+◌, ◌*◌, ◌≤◌, ◌<◌, ◌≡◌, Bool, true, false, ◌⊎◌, length, drop, Ok, Err}
+use Rattle.std.specs.Prelude.{Result, ℕ, suc, ◌+◌, ◌*◌, ◌≤◌, ◌<◌, ◌≡◌, Bool, ◌⊎◌, length, drop, Ok, Err}
 use mathlib.Core.List.{List, map, flat_map, Memᴰ}
 use Rattle.theory.specs.paper.Net.{Net, Gate}
 use Rattle.theory.specs.paper.Lists.{NoRepeats, greatest}

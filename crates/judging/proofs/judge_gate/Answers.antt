@@ -1,5 +1,4 @@
 -- `judge_gate` meets its contract: each test that fails names its rule.
-use native.Mathlib.Omega.{arith}
 use Rattle.judging.proofs.Judging.{cut_asked, peak_asked, label_asked, place_inside, paths_rule_asked}
 use Rattle.judging.proofs.Judging.{tried_cut, tried_label, tried_paths, tried_all}
 use Rattle.judging.proofs.judge_gate.Goals as goal

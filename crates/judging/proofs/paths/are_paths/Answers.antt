@@ -2,7 +2,7 @@
 use native.Mathlib.Omega.{arith}
 use Prim.Native.Nat.{ℕ, ◌+◌, ◌*◌, ◌-◌}
 use mathlib.Core.Path.{◌≡◌, subst}
-use Rattle.judging.proofs.Runs.{Passing, passing_starts, size_asks, path_asked, next_inside, passing_more}
+use Rattle.judging.proofs.Runs.{Passing, size_asks, path_asked, next_inside, passing_more}
 use Rattle.judging.proofs.Runs.{passing_stops, passing_ends}
 use Rattle.judging.proofs.paths.are_paths.Goals as goal
 

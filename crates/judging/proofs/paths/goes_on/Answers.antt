@@ -2,7 +2,7 @@
 use native.Mathlib.Omega.{arith}
 use Prim.Native.Nat.{ℕ, ◌+◌, ◌-◌}
 use mathlib.Core.Path.{◌≡◌, sym, subst, ◌∙◌}
-use Rattle.judging.proofs.Runs.{Going, going_starts, follows_here, next_free, going_more, going_stops}
+use Rattle.judging.proofs.Runs.{Going, follows_here, going_more, going_stops}
 use Rattle.judging.proofs.Runs.{going_ends, id_asks}
 use Rattle.judging.proofs.paths.goes_on.Goals as goal
 

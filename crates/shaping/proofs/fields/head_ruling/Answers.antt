@@ -22,22 +22,6 @@ returns-in_err-frame c =
     (frame_faulty s 0 due.form.head (head_length_wrong due s) (head_out_of_range due s) c.frame.ensures
     c.in_err-frame.was)
 
-pub length_at-requires : goal.length_at-requires
-length_at-requires c =
-    let s = c.args.sheet.now in
-    let due = due_of c.args.terms in
-    let inside =
-    frame_fits s 0 due.form.head false false c.frame.ensures c.in_ok-frame.was in
-    omega (arith, inside)
-
-pub overflow_add-width : goal.overflow_add-width
-overflow_add-width c =
-    omega (arith, c.requires.narrow.few)
-
-pub overflow_add-width-2 : goal.overflow_add-width-2
-overflow_add-width-2 c =
-    omega (arith, c.requires.narrow.few)
-
 pub returns-then-length_at-width : goal.returns-then-length_at-width
 unfolding head_ruling
 returns-then-length_at-width c =
@@ -46,14 +30,6 @@ returns-then-length_at-width c =
     let w = due.form.width in
     frame_sound s 0 due.form.head (head_length_wrong due s) (head_out_of_range due s) c.frame.ensures
     c.in_ok-frame.was (simp (ne_eqb (length_at s 0) (1 + w + w) (omega arith)))
-
-pub head_in_range-requires : goal.head_in_range-requires
-head_in_range-requires c =
-    let s = c.args.sheet.now in
-    let due = due_of c.args.terms in
-    let inside = frame_fits s 0 due.form.head false false c.frame.ensures
-    c.in_ok-frame.was in
-    record { narrow = c.requires.narrow; inputs_le_nodes = c.requires.inputs_le_nodes; width_in_bounds = omega (arith, inside, c.length_at.ensures) }
 
 pub returns-then-not-head_in_range : goal.returns-then-not-head_in_range
 unfolding head_ruling

@@ -19,14 +19,6 @@ returns-in_err-frame c =
     (frame_faulty s at due.form.line (line_length_wrong due s at) (line_range due (line_at due s at))
     c.frame.ensures c.in_err-frame.was)
 
-pub line_uses-requires : goal.line_uses-requires
-line_uses-requires c =
-    record {
-      narrow = c.requires.narrow;
-      at_in_bounds = frame_fits c.args.sheet.now c.args.at c.args.terms.form.line false false
-          c.frame.ensures c.in_ok-frame.was;
-    }
-
 pub returns-then-not-line_uses : goal.returns-then-not-line_uses
 unfolding line_ruling
 returns-then-not-line_uses c =
@@ -37,18 +29,6 @@ returns-then-not-line_uses c =
     c.frame.ensures c.in_ok-frame.was
     (value_wrong at (line_length_wrong due s at) (line_range due (line_at due s at)) c.line_uses.ensures
     c.if-not-line_uses.true)
-
-pub line_in_range-requires : goal.line_in_range-requires
-line_in_range-requires c =
-    let s = c.args.sheet.now in
-    let due = due_of c.args.terms in
-    let at = c.args.at in record {
-      narrow = c.requires.narrow;
-      at_in_bounds = frame_fits s at due.form.line false false c.frame.ensures
-          c.in_ok-frame.was;
-      at_value = not-true (line_length_wrong due s at)
-          (sym c.line_uses.ensures ∙ c.if-not-line_uses.false);
-    }
 
 pub returns-then-not-line_in_range : goal.returns-then-not-line_in_range
 unfolding line_ruling

@@ -19,14 +19,6 @@ returns-in_err-frame c =
     (frame_faulty s at due.form.lut (lut_length_wrong due s at)
     (lut_range due c.args.least (lut_at due s at)) c.frame.ensures c.in_err-frame.was)
 
-pub lut_uses-requires : goal.lut_uses-requires
-lut_uses-requires c =
-    record {
-      narrow = c.requires.narrow;
-      at_in_bounds = frame_fits c.args.sheet.now c.args.at c.args.terms.form.lut false false
-          c.frame.ensures c.in_ok-frame.was;
-    }
-
 pub returns-then-not-lut_uses : goal.returns-then-not-lut_uses
 unfolding lut_ruling
 returns-then-not-lut_uses c =
@@ -37,18 +29,6 @@ returns-then-not-lut_uses c =
     c.frame.ensures c.in_ok-frame.was
     (value_wrong at (lut_length_wrong due s at) (lut_range due c.args.least (lut_at due s at))
     c.lut_uses.ensures c.if-not-lut_uses.true)
-
-pub lut_in_range-requires : goal.lut_in_range-requires
-lut_in_range-requires c =
-    let s = c.args.sheet.now in
-    let due = due_of c.args.terms in
-    let at = c.args.at in record {
-      narrow = c.requires.narrow;
-      at_in_bounds = frame_fits s at due.form.lut false false c.frame.ensures
-          c.in_ok-frame.was;
-      at_value = not-true (lut_length_wrong due s at)
-          (sym c.lut_uses.ensures ∙ c.if-not-lut_uses.false);
-    }
 
 pub returns-then-not-lut_in_range : goal.returns-then-not-lut_in_range
 unfolding lut_ruling

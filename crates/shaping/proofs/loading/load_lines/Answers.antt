@@ -18,14 +18,6 @@ field_end-at-requires c =
 pub loop-v-init : goal.loop-v-init
 loop-v-init c = lines_loading c.field_end-at.ensures
 
-pub overflow_cast-node : goal.overflow_cast-node
-overflow_cast-node c =
-    omega (arith, c.requires.loadable.nodes)
-
-pub put_no_line-requires : goal.put_no_line-requires
-put_no_line-requires c =
-    lines_room (c.loop-v.v + 1) (omega (arith, c.loop-v-test.true)) c.requires.line_room c.loop-v.invariant.filled
-
 pub put_line-requires : goal.put_line-requires
 put_line-requires c =
     let all = whole (due_of c.args.terms) c.args.sheet.now c.requires.loadable.sound in record {
@@ -52,15 +44,3 @@ loop-v-preserved c =
           (gate_more so_far all w.if-v-terms.false c.loop-v-test.true c.requires.line_room w.put_line.ensures
           w.field_end-at-else-v-terms.ensures)
     ]
-
-pub shape_of-labels : goal.shape_of-labels
-shape_of-labels c = c.loop-v.invariant.filled.labels.as_long
-
-pub shape_of-cuts : goal.shape_of-cuts
-shape_of-cuts c = c.loop-v.invariant.filled.cuts.as_long
-
-pub shape_of-places : goal.shape_of-places
-shape_of-places c = c.loop-v.invariant.filled.places.as_long
-
-pub returns : goal.returns
-returns c = lines_loaded c.loop-v.invariant (omega (arith, c.loop-v-test.false))

@@ -10,10 +10,6 @@ use native.Mathlib.Omega.{arith}
 use Rattle.shaping.proofs.loading.load_luts.Goals.{then-next_root-node, else-next_root-node}
 use Rattle.shaping.proofs.loading.load_luts.Goals as goal
 
-pub overflow_add-width : goal.overflow_add-width
-overflow_add-width c =
-    omega (arith, c.requires.loadable.narrow.few)
-
 pub small_at-requires : goal.small_at-requires
 small_at-requires c =
     record {
@@ -35,10 +31,6 @@ loop-v-init c =
       filled = luts_begin (lut_arrays c.args.luts.now c.args.cuts.now c.args.tables.now);
     }
 
-pub overflow_cast-node : goal.overflow_cast-node
-overflow_cast-node c =
-    omega (arith, c.requires.loadable.nodes)
-
 pub next_root-requires : goal.next_root-requires
 next_root-requires c =
     record {
@@ -46,10 +38,6 @@ next_root-requires c =
       nodes = c.requires.loadable.nodes;
       inside = next_inside (due_of c.args.terms) c.args.sheet.now c.loop-v.invariant.left;
     }
-
-pub put_no_lut-requires : goal.put_no_lut-requires
-put_no_lut-requires c =
-    luts_room (c.loop-v.v + 1) (omega (arith, c.loop-v-test.true)) c.requires.lut_room c.loop-v.invariant.filled
 
 pub put_lut-requires : goal.put_lut-requires
 put_lut-requires c =
@@ -74,16 +62,6 @@ field_end-requires c =
     let l = c.loop-v.invariant.left in
     lut_end due s l.least c.loop-v.turn.at
     (ruled_here due s l c.next_root.ensures (omega (arith, c.if-next_root-node.false)) c.loop-v-test.true)
-
-pub overflow_sub-turn : goal.overflow_sub-turn
-overflow_sub-turn c =
-    let due = due_of c.args.terms in
-    let s = c.args.sheet.now in
-    let l = c.loop-v.invariant.left in
-    omega (
-      arith,
-      some_left due s l c.next_root.ensures (omega (arith, c.if-next_root-node.false)) c.loop-v-test.true,
-    )
 
 pub loop-v-preserved : goal.loop-v-preserved
 loop-v-preserved c =
@@ -110,15 +88,3 @@ loop-v-preserved c =
             filled = luts_put room so_far (put_as (lut_here due s l c.next_root.ensures (omega (arith, w.if-next_root-node.false)) low) w.put_lut.ensures);
           })
     ]
-
-pub shape_of-luts : goal.shape_of-luts
-shape_of-luts c = c.loop-v.invariant.filled.luts.as_long
-
-pub shape_of-cuts : goal.shape_of-cuts
-shape_of-cuts c = c.loop-v.invariant.filled.cuts.as_long
-
-pub shape_of-tables : goal.shape_of-tables
-shape_of-tables c = c.loop-v.invariant.filled.tables.as_long
-
-pub returns : goal.returns
-returns c = luts_to (omega (arith, c.loop-v.invariant.most)) c.loop-v.invariant.filled

@@ -6,22 +6,6 @@ use Rattle.shaping.proofs.Ids.{id_inside, rise_first, rise_none, rise_stop, rise
 use native.Mathlib.Omega.{arith}
 use Rattle.shaping.proofs.numbers.ids_rise.Goals as goal
 
-pub node_at-before-requires : goal.node_at-before-requires
-node_at-before-requires c = record { narrow = c.requires.narrow; width_in_bounds = omega (arith, one_less c.args.count c.args.width (omega arith)) }
-
-pub loop-i-init : goal.loop-i-init
-loop-i-init c = rise_first c.args.sheet.now c.args.at c.args.width c.args.count (omega arith) c.node_at-before.ensures
-
-pub overflow_mul-i : goal.overflow_mul-i
-overflow_mul-i c = omega (arith, id_inside c.args.width c.args.count c.loop-i.i (omega arith))
-
-pub overflow_add-at : goal.overflow_add-at
-overflow_add-at c = omega (arith, id_inside c.args.width c.args.count c.loop-i.i (omega arith))
-
-pub node_at-node-requires : goal.node_at-node-requires
-node_at-node-requires c =
-    record { narrow = c.requires.narrow; width_in_bounds = omega (arith, id_inside c.args.width c.args.count c.loop-i.i (omega arith)) }
-
 pub returns-then-node-before : goal.returns-then-node-before
 returns-then-node-before c =
     let a = c.args in

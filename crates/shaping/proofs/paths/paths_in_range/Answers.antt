@@ -8,12 +8,6 @@ use Rattle.shaping.proofs.PathLists.{range_far, range_next}
 use native.Mathlib.Omega.{arith}
 use Rattle.shaping.proofs.paths.paths_in_range.Goals as goal
 
-pub loop-init : goal.loop-init
-loop-init c =
-    let a = c.args in
-    let all : a.count ≡ a.count - 0 = omega arith in
-    (rw (sym all) c.requires.count_in_bounds, ap (λ (n : ℕ). out_of_range a.sheet.now a.width a.nodes a.at n) all)
-
 pub small_at-size-requires : goal.small_at-size-requires
 small_at-size-requires c =
     record {
@@ -71,10 +65,6 @@ overflow_add-next-in-loop c =
       ends_inside c.args.sheet.now c.args.width c.loop.next (c.args.count - c.loop.counter)
           (omega arith),
     )
-
-pub overflow_mul-next : goal.overflow_mul-next
-overflow_mul-next c =
-    omega (arith, twice c.small_at-size.result c.requires.narrow, c.small_at-size.ensures.fits)
 
 pub overflow_add-next-in-loop-2 : goal.overflow_add-next-in-loop-2
 overflow_add-next-in-loop-2 c =

@@ -7,30 +7,12 @@ use Rattle.shaping.proofs.PathLists.{use_none, use_torn, use_past, use_next}
 use native.Mathlib.Omega.{arith}
 use Rattle.shaping.proofs.paths.paths_use.Goals as goal
 
-pub loop-init : goal.loop-init
-loop-init c =
-    let a = c.args in
-    let all : a.count ≡ a.count - 0 = omega arith in
-    (c.requires.at_le_end, ap (λ (n : ℕ). paths_use a.sheet.now a.at a.width n a.end) all)
-
 pub returns-then-end-next : goal.returns-then-end-next
 returns-then-end-next c =
     sym
     (c.loop.invariant.1
     ∙ use_torn c.args.sheet.now c.args.width c.loop.next
     (c.args.count - c.loop.counter) c.args.end (omega arith) (omega arith))
-
-pub small_at-requires : goal.small_at-requires
-small_at-requires c =
-    record { narrow = c.requires.narrow; width_in_bounds = omega arith }
-
-pub overflow_mul-size : goal.overflow_mul-size
-overflow_mul-size c =
-    omega (arith, twice c.small_at.result c.requires.narrow, c.small_at.ensures.fits)
-
-pub overflow_add-size : goal.overflow_add-size
-overflow_add-size c =
-    omega (arith, twice c.small_at.result c.requires.narrow, c.small_at.ensures.fits)
 
 pub returns-then-end-next-2 : goal.returns-then-end-next-2
 returns-then-end-next-2 c =

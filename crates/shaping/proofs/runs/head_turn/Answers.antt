@@ -6,19 +6,12 @@ use Rattle.shaping.specs.Terms.{due_of}
 use Rattle.shaping.proofs.FieldRuns.{head_inside, head_stop, head_next}
 use Rattle.shaping.proofs.runs.head_turn.Goals as goal
 
-pub head_ruling-requires : goal.head_ruling-requires
-head_ruling-requires c = record { narrow = c.requires.narrow; inputs_le_nodes = c.requires.inputs_le_nodes; field_value = c.requires.field_value }
-
 pub returns-in_err-head_ruling : goal.returns-in_err-head_ruling
 returns-in_err-head_ruling c =
     let p = err_from_is_err_and c.from_residual.result c.from_residual.ensures.1 in
     rw (p.1, p.2)
     (head_stop (due_of c.args.terms) c.args.sheet.now c.head_ruling.ensures
     c.in_err-head_ruling.was)
-
-pub overflow_add-width : goal.overflow_add-width
-overflow_add-width c =
-    omega (arith, c.requires.narrow.few)
 
 pub small_at-luts-requires : goal.small_at-luts-requires
 small_at-luts-requires c =

@@ -4,9 +4,6 @@ use Rattle.shaping.specs.Terms.{due_of}
 use Rattle.shaping.proofs.FieldRuns.{line_stop, line_next}
 use Rattle.shaping.proofs.runs.line_turn.Goals as goal
 
-pub line_ruling-requires : goal.line_ruling-requires
-line_ruling-requires c = record { narrow = c.requires.narrow; field_value = c.requires.field_value }
-
 pub returns-in_err-line_ruling : goal.returns-in_err-line_ruling
 returns-in_err-line_ruling c =
     let p = err_from_is_err_and c.from_residual.result c.from_residual.ensures.1 in

@@ -6,9 +6,6 @@ use Rattle.shaping.specs.Terms.{due_of}
 use Rattle.shaping.proofs.FieldRuns.{lut_end, lut_whole, lut_stop, lut_next}
 use Rattle.shaping.proofs.runs.lut_turn.Goals as goal
 
-pub lut_ruling-requires : goal.lut_ruling-requires
-lut_ruling-requires c = record { narrow = c.requires.narrow; field_value = c.requires.field_value }
-
 pub returns-in_err-lut_ruling : goal.returns-in_err-lut_ruling
 returns-in_err-lut_ruling c =
     let p = err_from_is_err_and c.from_residual.result c.from_residual.ensures.1 in
@@ -34,9 +31,6 @@ node_at-root-requires c =
             c.args.at (sym c.lut_ruling.ensures ∙ c.in_ok-lut_ruling.was),
       );
     }
-
-pub overflow_add-result : goal.overflow_add-result
-overflow_add-result c = omega (arith, c.node_at-root.ensures.fits)
 
 pub returns : goal.returns
 returns c =

@@ -24,21 +24,6 @@ returns-then-size-before c =
     sym (id_past a.sheet.now a.at a.width a.size.leaves (a.i - 1) (omega arith))
     ∙ ap (λ (n : ℕ). get_or (counted ids) n 0) place
 
-pub overflow_mul-before : goal.overflow_mul-before
-overflow_mul-before c =
-    let a = c.args in
-    omega (arith, id_inside a.width a.size.leaves (a.i - 1) (omega arith))
-
-pub overflow_add-at : goal.overflow_add-at
-overflow_add-at c =
-    let a = c.args in
-    omega (arith, id_inside a.width a.size.leaves (a.i - 1) (omega arith))
-
-pub node_at-requires : goal.node_at-requires
-node_at-requires c =
-    let a = c.args in
-    record { narrow = c.requires.narrow; width_in_bounds = omega (arith, id_inside a.width a.size.leaves (a.i - 1) (omega arith)) }
-
 pub returns : goal.returns
 returns c =
     let a = c.args in
