@@ -3,7 +3,6 @@ use Rattle.std.specs.Prelude.{Option, None, Some, Result, Ok, Err}
 use Prim.Native.Nat.{ℕ, ◌+◌, ◌-◌, ◌<◌, ◌≤◌}
 use native.Mathlib.Omega.{arith}
 use mathlib.Core.Path.{◌≡◌, refl, ap, sym, subst, ◌∙◌}
-use mathlib.Core.Bool.{true}
 use mathlib.Core.List.{List}
 use borrow.Author.Tests.{lt-ltb, le-ltb, eqb-true, not-false}
 use lib.ListN.{length}
@@ -21,7 +20,7 @@ use Rattle.sheet.specs.paper.Shape.{lut_ruling, lut_length_wrong, lut_range, lea
 use Rattle.sheet.specs.paper.Shape.{luts_from, after_head, after_lines, after_luts, reading}
 use Rattle.shaping.specs.declared.runs.Left.{Left}
 use Rattle.shaping.specs.Fields.{head_length_wrong, head_out_of_range}
-use Rattle.shaping.specs.Runs.{then, extra_ruling, left_ruling, due_ruling, turn_ruling, turns_left, GoesOn, Turned, FieldJudged}
+use Rattle.shaping.specs.Runs.{then, extra_ruling, left_ruling, due_ruling, turns_left, GoesOn, Turned, FieldJudged}
 use Rattle.shaping.proofs.Rulings.{Kept, field_kept, field_inside}
 use Rattle.shaping.proofs.Values.{lut_parts}
 
@@ -156,9 +155,6 @@ err_not_ok e = let z : ◌≡◌ {A = ℕ} 0 1 = cc in omega arith
 none_not_some : {left : Left} → ◌≡◌ {A = Result (Option Left) Fault} (Ok None) (Ok (Some left)) → ⊥
 none_not_some e = let z : ◌≡◌ {A = ℕ} 0 1 = cc in omega arith
 
-some_ok : {left next : Left} → ◌≡◌ {A = Result (Option Left) Fault} (Ok (Some left)) (Ok (Some next)) → left ≡ next
-some_ok e = cc
-
 ok_same : {left next : Left} → ◌≡◌ {A = Result Left Fault} (Ok left) (Ok next) → left ≡ next
 ok_same e = cc
 
@@ -223,19 +219,6 @@ module _ (due : Due) (s : List ℕ) where
         ∙ ap (λ (n : ℕ). left_ruling due s left.lines (left.luts - 1) (n + 1) (end_at s at)) (sym rooted.number))
         (lut_end due s left.least at (sym ruled ∙ e))
         (omega (arith, some))
-
-  -- a turn's answer is that of the field
-  module _ {at : ℕ} {left : Left} {r : Result Left Fault} (turned : Turned due s at left r) where
-    pub field_stop : {f : Fault} → r ≡ Err f → FieldJudged due s at left (Err f)
-    field_stop e = field_ended due s at left (turned.goes_on.same ∙ ap (turn_ruling due s (end_at s at)) e)
-
-    pub field_next : {next : Left} → r ≡ Ok next → FieldJudged due s at left (Ok (Some next))
-    field_next {next} e =
-        record {
-          same = turned.goes_on.same ∙ ap (turn_ruling due s (end_at s at)) e;
-          inside = λ o. turned.goes_on.inside e;
-          less = λ {next = n} o. subst (λ (l : Left). turns_left l < turns_left left) (some_ok o) (turned.less e);
-        }
 
   -- the turn behind the last LUT
   module _ (at : ℕ) (left : Left) (none : left.lines ≤ 0) (last : left.luts ≤ 0) where

@@ -18,11 +18,11 @@ use Rattle.sheet.specs.paper.Shape.{leaves_range, Fields, and_field, lines_from,
 use Rattle.sheet.specs.paper.Shape.{reading}
 use Rattle.sheet.specs.paper.Rules.{line_of_node, is_listed, leaves_listed, table_listed}
 use Rattle.shaping.specs.Loading.{start_of, place_of, LineArrays, LineRoom, LinePut, LinesFilled, none_listed, lut_listed, listed_at, LutArrays, LutsFilled}
-use Rattle.shaping.specs.Turns.{LineReady, LinesLoaded, next_root, LutsLeft}
+use Rattle.shaping.specs.Turns.{LineReady, next_root, LutsLeft}
 use Rattle.shaping.proofs.Rulings.{not_sound}
 use Rattle.shaping.proofs.Values.{or_none, line_parts}
 use Rattle.shaping.proofs.FieldRuns.{luts_step, line_kept, line_end, lut_kept, lut_whole}
-use Rattle.shaping.proofs.Filling.{lines_begin, line_room_lem, lines_put, lines_to}
+use Rattle.shaping.proofs.Filling.{lines_begin, line_room_lem, lines_put}
 
 -- a sound run's first field is sound, and so is the rest
 module _ {A : Type 0} where
@@ -365,8 +365,3 @@ module _ {due : Due} {s : List ℕ} where
   lines_loading {a} begun =
       let none : 0 ≡ 0 - due.inputs = omega arith in
       record { most = omega arith; reached = begun ∙ ap (start_of s (end_at s 0)) none; filled = lines_begin 0 a }
-
-  pub lines_loaded : {before after : LineArrays} {v at : ℕ} → LinesLoading due s before after v at → due.nodes ≤ v → LinesLoaded due s before at after
-  lines_loaded {v = v} l done =
-      let all : v ≡ due.nodes = omega (arith, l.most, done) in
-      record { end = l.reached ∙ ap (λ (n : ℕ). start_of s (end_at s 0) (n - due.inputs)) all; filled = lines_to all l.filled }

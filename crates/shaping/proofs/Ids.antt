@@ -30,14 +30,6 @@ module _ (s : List ℕ) where
   pub id_past : (at width count i : ℕ) → count ≤ i → get_or (ids_at s at width count) i 0 ≡ 0
   id_past at width count i past = get_or-eq_default (ids_at s at width count) 0 (omega (arith, length_ids s at width count, past))
 
-  pub rise_first : (at width count : ℕ) {id : ℕ} → 1 ≤ count → SmallAt s at width id →
-      rising (ids_at s at width count) ≡ rising (id ∷ ids_at s (at + 1 * width) width (count - 1))
-  rise_first at width count {id} some read =
-      let second : at + width ≡ at + 1 * width = omega (arith, one-mul width) in
-      ap rising (ids_step s at width count some)
-      ∙ ap (λ (v : ℕ). rising (v ∷ ids_at s (at + width) width (count - 1))) (sym read.number)
-      ∙ ap (λ (place : ℕ). rising (id ∷ ids_at s place width (count - 1))) second
-
   module _ (before at width left : ℕ) where
     pub rise_none : left ≤ 0 → rising (before ∷ ids_at s at width left) ≡ true
     unfolding rising
@@ -81,14 +73,6 @@ module _ (due : Due) (s : List ℕ) (at : ℕ) {count : ℕ} (counted : SmallAt 
       rw (le-ltb (length (leaves_at due s at)) 1 (omega (arith, many)), lt-ltb due.k (length (leaves_at due s at)) (omega (arith, many)))
 
   module _ (some : 1 ≤ count) (few : count ≤ due.k) {rises : Bool} (told : rises ≡ rising (ids_at s (at + 1) due.form.width count)) where
-    pub leaves_fall : rises ≡ false → false ≡ not (leaves_range due (leaves_at due s at))
-    leaves_fall falls =
-        rw (
-          le-ltb (length (leaves_at due s at)) 1 (omega (arith, many)),
-          le-ltb due.k (length (leaves_at due s at)) (omega (arith, many)),
-          ap rising same ∙ sym told ∙ falls,
-        )
-
     pub leaves_told : rises ≡ true → {below : Bool} → below ≡ not (some_from due.nodes (ids_at s (at + 1) due.form.width count)) →
         below ≡ not (leaves_range due (leaves_at due s at))
     leaves_told rise below =

@@ -1,11 +1,11 @@
 -- A field's ruling from what is told of it, and from its frame's and its value's.
-use Rattle.std.specs.Prelude.{Option, None, Some, Ok, Err}
-use Prim.Native.Nat.{ℕ, ◌-◌, ◌<◌, ◌≤◌}
+use Rattle.std.specs.Prelude.{Ok, Err}
+use Prim.Native.Nat.{ℕ, ◌-◌, ◌≤◌}
 use native.Mathlib.Omega.{arith}
-use mathlib.Core.Path.{◌≡◌, refl, ap, sym, ◌∙◌}
-use mathlib.Core.Bool.{Bool, true, false, not, cond}
+use mathlib.Core.Path.{◌≡◌, refl, sym, ◌∙◌}
+use mathlib.Core.Bool.{Bool, true, false, not}
 use mathlib.Core.List.{List, ◌∷◌}
-use borrow.Author.Tests.{ltb-true, ltb-false, not-true, not-false}
+use borrow.Author.Tests.{ltb-false, not-true, not-false}
 use lib.ListN.{length}
 use lib.Dec.{ltb, eqb}
 use Rattle.drawing.specs.paper.Limits.{frame_size}
@@ -15,38 +15,10 @@ use Rattle.sheet.specs.declared.Fault.{Fault}
 use Rattle.sheet.specs.declared.Fault.TheVariants.{Torn, Tag, Length, Range}
 use Rattle.sheet.specs.paper.Shape.{Ruling}
 use Rattle.sheet.specs.paper.Shape.{field_rules, end_at}
-use Rattle.shaping.specs.declared.fields.Front.{Front}
-use Rattle.shaping.specs.Fields.{field_at, value_rules}
+use Rattle.shaping.specs.Fields.{value_rules}
 
 pub not_sound : {f : Fault} → ◌≡◌ {A = Ruling} (Err f) (Ok tt) → ⊥
 not_sound e = let z : ◌≡◌ {A = ℕ} 0 1 = cc in omega arith
-
--- what is told of a field, either way
-told_short : (short : Bool) (front : Front) → ◌≡◌ {A = Option Front} (cond short None (Some front)) None → short ≡ true
-told_short true front e = refl
-told_short false front e = absurd (let z : ◌≡◌ {A = ℕ} 0 1 = cc in omega arith)
-
-told_begun : (short : Bool) (front x : Front) → cond short None (Some front) ≡ Some x → (short ≡ false) × (front ≡ x)
-told_begun true front x e = absurd (let z : ◌≡◌ {A = ℕ} 0 1 = cc in omega arith)
-told_begun false front x e = (refl, cc)
-
-module _ (s : List ℕ) (at : ℕ) {field : Option Front} (told : field ≡ field_at s at) where
-  pub field_short : field ≡ None → length s - at < frame_size
-  field_short e = ltb-true (length s - at) frame_size (told_short (ltb (length s - at) frame_size) _ (sym told ∙ e))
-
-  pub record Begins (x : Front) : Type 0 where
-    pub long : frame_size ≤ length s - at
-    pub tag : x.tag ≡ tag_at s at
-    pub size : x.size ≡ length_at s at
-
-  pub field_begun : {x : Front} → field ≡ Some x → Begins x
-  field_begun {x} e =
-      let both = told_begun (ltb (length s - at) frame_size) (record { tag = tag_at s at; size = length_at s at }) x (sym told ∙ e) in
-      record {
-        long = ltb-false (length s - at) frame_size both.0;
-        tag = ap (λ (f : Front). f.tag) (sym both.1);
-        size = ap (λ (f : Front). f.size) (sym both.1);
-      }
 
 -- the five rules of a field at `at`: the first three do not look at the others
 module _ (at : ℕ) where
@@ -122,9 +94,6 @@ module _ (s : List ℕ) (at tag : ℕ) where
     pub frame_faulty : {f : Fault} → framed ≡ Err f → Err f ≡ first (Ok tt) (field_rules s at tag a b)
     unfolding torn other past
     frame_faulty e = sym (five_faulty at torn other past a b (sym ruled ∙ e))
-
-    pub frame_fits : framed ≡ Ok tt → end_at s at ≤ length s
-    frame_fits e = field_inside {a = false} {b = false} (field_kept {a = false} {b = false} (sym ruled ∙ e))
 
     pub frame_sound : {r : Ruling} → framed ≡ Ok tt → r ≡ first (Ok tt) (value_rules at a b) → r ≡ first (Ok tt) (field_rules s at tag a b)
     unfolding torn other past

@@ -12,8 +12,8 @@ use crate::numbers::{label_at, leaves_in_range, node_at, size_at};
 use crate::paths::{paths_in_range, paths_use};
 use drawing::bytes::{byte_at, length_at, small_at};
 use drawing::limits::{FRAME, ROWS_SIZE, VERSION, VERSION_AT};
-use sheet::limits::{COUNT_SIZE, DEPTH_AT, VERSION_SIZE};
 use sheet::Fault;
+use sheet::limits::{COUNT_SIZE, DEPTH_AT, VERSION_SIZE};
 use storage::CutSize;
 
 // What stands at the front of a field: its tag, and how long its value is.
@@ -187,14 +187,18 @@ fn lut_in_range(terms: Terms, least: usize, sheet: &[u8], at: usize) -> bool
 {
     let width = terms.form.width;
     let root = node_at(sheet, at + FRAME, width).id as usize;
-    least <= root
-        && root < terms.numbers.nodes
-        && leaves_in_range(terms, sheet, at + FRAME + width)
+    least <= root && root < terms.numbers.nodes && leaves_in_range(terms, sheet, at + FRAME + width)
 }
 
 // `least`: the lowest root that may follow.
 // Not one function with `line_ruling`: its two tests, as closures, would each bring to the contract what they ask, which is no plainer.
-pub fn lut_ruling(terms: Terms, least: usize, sheet: &[u8], at: usize, field: Option<Front>) -> Result<(), Fault>
+pub fn lut_ruling(
+    terms: Terms,
+    least: usize,
+    sheet: &[u8],
+    at: usize,
+    field: Option<Front>,
+) -> Result<(), Fault>
     requires narrow { Narrow terms.form.width }
     requires field_value { field ≡ field_at sheet.now at }
     ensures { result ≡ lut_ruling (due_of terms) sheet.now least at }

@@ -8,8 +8,7 @@ use Rattle.std.proofs.lemmas.Result.{err_from_is_err_and}
 use Rattle.sheet.specs.paper.Shape.{head_ruling}
 use Rattle.shaping.specs.Terms.{due_of}
 use Rattle.shaping.specs.Fields.{head_length_wrong, head_out_of_range}
-use Rattle.shaping.proofs.Rulings.{frame_fits, frame_faulty, frame_sound}
-use mathlib.Core.Bool.{false}
+use Rattle.shaping.proofs.Rulings.{frame_faulty, frame_sound}
 use Rattle.shaping.proofs.fields.head_ruling.Goals as goal
 
 pub returns-in_err-frame : goal.returns-in_err-frame

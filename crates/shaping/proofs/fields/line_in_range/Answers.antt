@@ -1,8 +1,6 @@
 -- `line_in_range` meets its contract: the range rules of a line, one after the other.
 use Rattle.shaping.specs.Terms.{due_of}
-use Rattle.drawing.proofs.Ids.{twice}
-use Rattle.shaping.proofs.Ids.{narrow_one}
-use Rattle.shaping.proofs.Values.{line_parts, q_inside, paths_end_lem, line_low, line_high, line_leaves, line_count}
+use Rattle.shaping.proofs.Values.{line_parts, paths_end_lem, line_count}
 use Rattle.shaping.proofs.Values.{line_told}
 use native.Mathlib.Omega.{arith}
 use Rattle.shaping.proofs.fields.line_in_range.Goals as goal

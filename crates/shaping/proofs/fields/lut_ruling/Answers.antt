@@ -1,11 +1,8 @@
 -- `lut_ruling` meets its contract: the frame's ruling, then length, then range.
-use mathlib.Core.Path.{sym, ◌∙◌}
-use borrow.Author.Tests.{not-true}
 use Rattle.std.proofs.lemmas.Result.{err_from_is_err_and}
 use Rattle.sheet.specs.paper.Shape.{lut_ruling, lut_length_wrong, lut_range, lut_at}
 use Rattle.shaping.specs.Terms.{due_of}
-use Rattle.shaping.proofs.Rulings.{frame_fits, frame_faulty, frame_sound, value_wrong, value_far, value_sound}
-use mathlib.Core.Bool.{false}
+use Rattle.shaping.proofs.Rulings.{frame_faulty, frame_sound, value_wrong, value_far, value_sound}
 use Rattle.shaping.proofs.fields.lut_ruling.Goals as goal
 
 pub returns-in_err-frame : goal.returns-in_err-frame

@@ -3,7 +3,7 @@ use Prim.Native.Nat.{◌+◌}
 use Rattle.shaping.specs.Terms.{due_of}
 use Rattle.shaping.proofs.Filling.{lines_room}
 use Rattle.shaping.proofs.FieldRuns.{head_end}
-use Rattle.shaping.proofs.Found.{whole, lines_loading, lines_loaded, input_more, gate_end}
+use Rattle.shaping.proofs.Found.{whole, lines_loading, input_more, gate_end}
 use Rattle.shaping.proofs.Found.{gate_ready, gate_more}
 use native.Mathlib.Omega.{arith}
 use Rattle.shaping.proofs.loading.load_lines.Goals.{then-v-terms, else-v-terms}
@@ -36,10 +36,10 @@ loop-v-preserved c =
     let all = whole (due_of c.args.terms) c.args.sheet.now c.requires.loadable.sound in
     let so_far = c.loop-v.invariant in
     elim c.if-v-terms.branch [
-      then-v-terms w ↦
+      | then-v-terms w ↦
           rw (w.labels-is, w.cuts-is, w.places-is, w.at-is)
           (input_more so_far c.requires.loadable.gates w.if-v-terms.true c.requires.line_room w.put_no_line.ensures)
-    | else-v-terms w ↦
+      | else-v-terms w ↦
           rw (w.labels-is, w.cuts-is, w.places-is, w.at-is)
           (gate_more so_far all w.if-v-terms.false c.loop-v-test.true c.requires.line_room w.put_line.ensures
           w.field_end-at-else-v-terms.ensures)

@@ -2,9 +2,9 @@
 use Prim.Native.Nat.{◌+◌}
 use Rattle.shaping.specs.Terms.{due_of}
 use Rattle.shaping.specs.Loading.{lut_arrays}
-use Rattle.shaping.proofs.Filling.{luts_begin, luts_put, luts_room, lut_room_lem, luts_to, put_as}
+use Rattle.shaping.proofs.Filling.{luts_begin, luts_put, luts_room, lut_room_lem, put_as}
 use Rattle.shaping.proofs.FieldRuns.{head_inside, lut_end, lut_whole}
-use Rattle.shaping.proofs.Found.{whole, left_first, next_inside, none_here, left_past, some_left}
+use Rattle.shaping.proofs.Found.{whole, left_first, next_inside, none_here, left_past}
 use Rattle.shaping.proofs.Found.{ruled_here, lut_here, left_behind}
 use native.Mathlib.Omega.{arith}
 use Rattle.shaping.proofs.loading.load_luts.Goals.{then-next_root-node, else-next_root-node}
@@ -72,7 +72,7 @@ loop-v-preserved c =
     let room = lut_room_lem (c.loop-v.v + 1) (omega (arith, low)) c.requires.lut_room in
     let so_far = c.loop-v.invariant.filled in
     elim c.if-next_root-node.branch [
-      then-next_root-node w ↦
+      | then-next_root-node w ↦
           let other = w.if-next_root-node.true in
           rw (w.luts-is, w.cuts-is, w.tables-is, w.turn-is)
           (record {
@@ -80,7 +80,7 @@ loop-v-preserved c =
             left = left_past due s l c.next_root.ensures other;
             filled = luts_put room so_far (put_as (none_here due s l c.next_root.ensures other) w.put_no_lut.ensures);
           })
-    | else-next_root-node w ↦
+      | else-next_root-node w ↦
           rw (w.luts-is, w.cuts-is, w.tables-is, w.turn-is)
           (record {
             most = omega (arith, low);

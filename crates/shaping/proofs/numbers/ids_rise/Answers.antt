@@ -1,8 +1,7 @@
 -- `ids_rise` meets its contract: the ids rise if the last one read and those from here on do.
 use Prim.Native.Nat.{◌+◌, ◌*◌, ◌-◌}
 use mathlib.Core.Path.{sym, ◌∙◌}
-use Rattle.drawing.proofs.Ids.{one_less}
-use Rattle.shaping.proofs.Ids.{id_inside, rise_first, rise_none, rise_stop, rise_next}
+use Rattle.shaping.proofs.Ids.{rise_none, rise_stop, rise_next}
 use native.Mathlib.Omega.{arith}
 use Rattle.shaping.proofs.numbers.ids_rise.Goals as goal
 

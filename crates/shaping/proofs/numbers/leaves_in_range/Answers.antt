@@ -1,8 +1,6 @@
 -- `leaves_in_range` meets its contract: the range rules of leaves, one after the other.
-use mathlib.Core.Path.{ap}
-use Prim.Native.Nat.{ℕ, ◌*◌}
 use Rattle.shaping.specs.Terms.{due_of}
-use Rattle.shaping.proofs.Ids.{leaves_few, leaves_many, leaves_fall, leaves_told}
+use Rattle.shaping.proofs.Ids.{leaves_many, leaves_told}
 use native.Mathlib.Omega.{arith}
 use Rattle.shaping.proofs.numbers.leaves_in_range.Goals as goal
 

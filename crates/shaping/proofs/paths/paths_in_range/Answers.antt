@@ -2,7 +2,6 @@
 use Prim.Native.Nat.{ℕ, ◌+◌, ◌*◌, ◌-◌}
 use mathlib.Core.Path.{◌≡◌, ap, sym, ◌∙◌}
 use mathlib.Core.Bool.{not}
-use Rattle.drawing.proofs.Ids.{twice}
 use Rattle.shaping.proofs.PathLists.{out_of_range, ends_after, ends_next, ends_inside, range_none, range_empty}
 use Rattle.shaping.proofs.PathLists.{range_far, range_next}
 use native.Mathlib.Omega.{arith}

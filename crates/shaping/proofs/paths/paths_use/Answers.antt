@@ -2,7 +2,6 @@
 use Prim.Native.Nat.{ℕ, ◌+◌, ◌*◌, ◌-◌}
 use mathlib.Core.Path.{◌≡◌, ap, sym, ◌∙◌}
 use Rattle.sheet.specs.paper.Shape.{paths_use}
-use Rattle.drawing.proofs.Ids.{twice}
 use Rattle.shaping.proofs.PathLists.{use_none, use_torn, use_past, use_next}
 use native.Mathlib.Omega.{arith}
 use Rattle.shaping.proofs.paths.paths_use.Goals as goal
@@ -24,12 +23,12 @@ returns-then-end-next-2 c =
 pub loop-preserved : goal.loop-preserved
 loop-preserved c =
     let fewer : c.args.count - c.loop.counter - 1 ≡ c.args.count - (c.loop.counter + 1) = omega arith in (
-  omega arith,
-  c.loop.invariant.1
-      ∙ use_next c.args.sheet.now c.args.width c.loop.next (c.args.count - c.loop.counter)
-      c.args.end c.small_at.ensures (omega arith) (omega arith)
-      ∙ ap (λ (n : ℕ). paths_use c.args.sheet.now (c.loop.next + (c.args.width + c.small_at.result * c.args.width)) c.args.width n c.args.end) fewer,
-)
+      omega arith,
+      c.loop.invariant.1
+          ∙ use_next c.args.sheet.now c.args.width c.loop.next (c.args.count - c.loop.counter)
+          c.args.end c.small_at.ensures (omega arith) (omega arith)
+          ∙ ap (λ (n : ℕ). paths_use c.args.sheet.now (c.loop.next + (c.args.width + c.small_at.result * c.args.width)) c.args.width n c.args.end) fewer,
+    )
 
 pub returns : goal.returns
 returns c =

@@ -1,7 +1,6 @@
 -- `judge_field` meets its contract: the turn of what is due, or that nothing follows.
-use Rattle.std.proofs.lemmas.Result.{err_from_is_err_and}
 use Rattle.shaping.specs.Terms.{due_of}
-use Rattle.shaping.proofs.FieldRuns.{field_stop, field_next, extra_stop, extra_none}
+use Rattle.shaping.proofs.FieldRuns.{extra_stop, extra_none}
 use Rattle.shaping.proofs.runs.judge_field.Goals as goal
 
 pub returns-then-at-sheet : goal.returns-then-at-sheet

@@ -5,7 +5,7 @@ use lib.ListN.{get_or}
 use Rattle.drawing.specs.paper.Bytes.{ids_at}
 use Rattle.shaping.specs.Loading.{counted}
 use Rattle.drawing.proofs.Ids.{length_ids}
-use Rattle.shaping.proofs.Ids.{id_at, id_past, id_inside}
+use Rattle.shaping.proofs.Ids.{id_at, id_past}
 use native.Mathlib.Omega.{arith}
 use Rattle.shaping.proofs.storing.list_place.Goals as goal
 

@@ -1,5 +1,5 @@
 -- `put_list` meets its contract: the places passed are filled.
-use Prim.Native.Nat.{◌+◌, ◌-◌, ◌≤◌}
+use Prim.Native.Nat.{◌+◌, ◌-◌}
 use lib.ListN.{get_or}
 use Rattle.drawing.specs.paper.Bytes.{ids_at}
 use Rattle.shaping.specs.Loading.{Filled, counted}

@@ -1,7 +1,6 @@
 -- `put_ids` meets its contract: the ids passed are written.
 use Prim.Native.Nat.{◌+◌, ◌-◌}
 use lib.ListN.{take, drop}
-use Rattle.sheet.proofs.Writes.{same_size}
 use Rattle.sheet.proofs.Parts.{range_part, ids_none, ids_room, ids_more, ids_all}
 use Rattle.sheet.proofs.bytes.put_ids.Goals as goal
 
