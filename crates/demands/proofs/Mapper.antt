@@ -1,4 +1,5 @@
 -- Demand 1 and demand 2 for the mapper, and that its own sheet keeps the rules.
+use Rattle.std.specs.Prelude.{Ok}
 use Prim.Native.Nat.{ℕ, ◌≤◌}
 use native.Mathlib.Omega.{arith}
 use mathlib.Core.Path.{◌≡◌, refl, sym, ap, ◌∙◌, subst}
@@ -18,7 +19,6 @@ use Rattle.drawing.specs.paper.Reading.{found, table_of}
 use Rattle.walking.specs.paper.Loops.{loop_number}
 use Rattle.taking.specs.paper.Taken.{drawn, ReadsWhole, IsTaken}
 use Rattle.taking.proofs.Judged.{refusal_number}
-use Rattle.sheet.specs.declared.Ruling.TheVariants as ruling
 use Rattle.sheet.specs.paper.Limits.{sheet_room}
 use Rattle.sheet.specs.paper.Sheet.{Sheet}
 use Rattle.sheet.specs.paper.Encoding.{narrow, encode}
@@ -93,12 +93,12 @@ module _ (s : List ℕ) (taken : IsTaken s) where
   unfolding net_of
   due_same i = record { form = narrow; most = 191; k = head_k s; inputs = head_i s; nodes = nodes_are s whole i }
 
-  pub sheet_read : (sheet : Sheet) → MapsTo s sheet → reading (due_in s) (encode narrow sheet) ≡ record { sheet = sheet; ruling = ruling.Sound }
+  pub sheet_read : (sheet : Sheet) → MapsTo s sheet → reading (due_in s) (encode narrow sheet) ≡ record { sheet = sheet; ruling = Ok tt }
   sheet_read sheet mapper =
       let shaped : Shaped (due_for narrow 191 (head_k s) (drawn s)) sheet =
       mappers_sheet_shaped (drawn s) (tables_of (table_of s)) (head_k s) (found s).outputs sheet (drawing s whole free) (table_ranked s whole free)
       (outputs_are_nodes s whole) mapper 191 (k_few s whole) (rank_most s whole free) (narrow_fits (k_few s whole) (nodes_few s whole)) in
-      subst (λ (due : Due). reading due (encode narrow sheet) ≡ record { sheet = sheet; ruling = ruling.Sound }) due_same
+      subst (λ (due : Due). reading due (encode narrow sheet) ≡ record { sheet = sheet; ruling = Ok tt }) due_same
       (reads_back (due_for narrow 191 (head_k s) (drawn s)) sheet shaped)
 
   pub sheet_kept : (sheet : Sheet) → MapsTo s sheet → KeepsAll s (encode narrow sheet)

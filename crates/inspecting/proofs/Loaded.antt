@@ -1,4 +1,5 @@
 -- Passes two to four on a sheet that is loaded: the first rule broken is that of the first pass that finds one.
+use Rattle.std.specs.Prelude.{Ok, Err}
 use Prim.Native.Nat.{ℕ, ◌≤◌, ◌<◌}
 use native.Mathlib.Omega.{arith}
 use mathlib.Core.Path.{◌≡◌, refl, ap, ◌∙◌}
@@ -16,8 +17,9 @@ use Rattle.sheet.specs.Arrays.{HoldsLines}
 use Rattle.sheet.proofs.Firsts.{first_before, first_after}
 use Rattle.shaping.specs.Loading.{LineArrays, LutArrays, LineRoom, LutRoom, Loadable, Loaded}
 use Rattle.shaping.proofs.Holding.{holds_lines, holds_places, holds_luts}
-use Rattle.judging.specs.declared.Judged.{Judged}
-use Rattle.judging.specs.declared.Judged.TheVariants as judged
+use Rattle.judging.specs.Gates.{Judged}
+use Rattle.judging.specs.declared.Broken.{Broken}
+use Rattle.judging.specs.declared.Broken.TheVariants as broken
 use Rattle.judging.specs.Gates.{lined_of, HoldsSheet, JudgeAsked, JudgesHeld, found_of}
 use Rattle.inspecting.specs.declared.Inspection.{Inspection}
 use Rattle.inspecting.specs.declared.Inspection.TheVariants as inspection
@@ -97,17 +99,17 @@ module _ {k inputs nodes number : ℕ} {fanins rows outputs order t : List ℕ} 
             reply = refl;
           })
 
-      pub gates_cut : {g : Node} → r ≡ judged.Cut g → Ruled (inspection.Cut g)
-      gates_cut e = gates_rule (ap (found_of net.inputs sheet.lines) e)
+      pub gates_cut : {g : Node} {b : Broken} → r ≡ Err b → b ≡ broken.Cut g → Ruled (inspection.Cut g)
+      gates_cut e named = gates_rule (ap (found_of net.inputs sheet.lines) (e ∙ ap Err named))
 
-      pub gates_label : {g : Node} → r ≡ judged.Label g → Ruled (inspection.Label g)
-      gates_label e = gates_rule (ap (found_of net.inputs sheet.lines) e)
+      pub gates_label : {g : Node} {b : Broken} → r ≡ Err b → b ≡ broken.Label g → Ruled (inspection.Label g)
+      gates_label e named = gates_rule (ap (found_of net.inputs sheet.lines) (e ∙ ap Err named))
 
-      pub gates_paths : {g : Node} → r ≡ judged.Paths g → Ruled (inspection.Paths g)
-      gates_paths e = gates_rule (ap (found_of net.inputs sheet.lines) e)
+      pub gates_paths : {g : Node} {b : Broken} → r ≡ Err b → b ≡ broken.Paths g → Ruled (inspection.Paths g)
+      gates_paths e named = gates_rule (ap (found_of net.inputs sheet.lines) (e ∙ ap Err named))
 
       -- or not
-      pub gates_kept : r ≡ judged.Kept → {x : Inspection} →
+      pub gates_kept : r ≡ Ok tt → {x : Inspection} →
           LastRuled k inputs nodes fanins rows outs a'.labels b'.luts b'.cuts b'.tables head x → Ruled x
       gates_kept e {x} last =
           let right = last.right sheet sheet_held in

@@ -1,5 +1,6 @@
 -- The place that a fault in a sheet's shape names is small, however many bytes there are: the fields before it are sound, each is at most 65,538
 -- bytes long, and there are few of them.
+use Rattle.std.specs.Prelude.{Ok, Err}
 use Prim.Native.Nat.{ℕ, zero, suc, ◌+◌, ◌*◌, ◌-◌, ◌≤◌, ◌<◌}
 use native.Mathlib.Omega.{arith}
 use mathlib.Core.Path.{◌≡◌, refl, ap, sym, ◌∙◌}
@@ -14,8 +15,7 @@ use Rattle.drawing.proofs.Digits.{number_none, number_more}
 use Rattle.drawing.proofs.Places.{first_so}
 use Rattle.sheet.specs.declared.Fault.{Fault}
 use Rattle.sheet.specs.declared.Fault.TheVariants.{Extra}
-use Rattle.sheet.specs.declared.Ruling.{Ruling}
-use Rattle.sheet.specs.declared.Ruling.TheVariants.{Sound, Faulty}
+use Rattle.sheet.specs.paper.Shape.{Ruling}
 use Rattle.sheet.specs.paper.Sheet.{Line, Lut, Sheet}
 use Rattle.sheet.specs.paper.Shape.{Due, field_rules, end_at, lut_at, lut_ruling, lut_range, lut_length_wrong, line_at, line_ruling, line_range, line_length_wrong}
 use Rattle.sheet.specs.Shape.{place}
@@ -27,16 +27,16 @@ use Rattle.shaping.proofs.Found.{the_lines, the_luts, whole}
 
 -- the place that a ruling names, and another where it is sound
 abbrev pub fault_or : ℕ → Ruling → ℕ
-fault_or other Sound = other
-fault_or other (Faulty f) = place f
+fault_or other (Ok tt) = other
+fault_or other (Err f) = place f
 
 abbrev At : ℕ → Ruling → Type 0
 At at r = fault_or at r ≡ at
 
 module _ (due : Due) (s : List ℕ) where
-  field_place : (at tag : ℕ) (length-wrong out_of_range : Bool) → At at (first Sound (field_rules s at tag length-wrong out_of_range))
+  field_place : (at tag : ℕ) (length-wrong out_of_range : Bool) → At at (first (Ok tt) (field_rules s at tag length-wrong out_of_range))
   field_place at tag length-wrong out_of_range =
-      first_so (At at) Sound (field_rules s at tag length-wrong out_of_range) refl (refl, (refl, (refl, (refl, (refl, tt)))))
+      first_so (At at) (Ok tt) (field_rules s at tag length-wrong out_of_range) refl (refl, (refl, (refl, (refl, (refl, tt)))))
 
   head_place : At 0 (head_ruling due s)
   unfolding head_ruling
@@ -51,7 +51,7 @@ module _ (due : Due) (s : List ℕ) where
   lut_place least at = field_place at due.form.lut (lut_length_wrong due s at) (lut_range due least (lut_at due s at))
 
   -- "depth above 191; LUT count above G"
-  pub head_numbers : head_ruling due s ≡ Sound → (depth_at due s ≤ due.most) × (count_at due s ≤ due.nodes - due.inputs)
+  pub head_numbers : head_ruling due s ≡ Ok tt → (depth_at due s ≤ due.most) × (count_at due s ≤ due.nodes - due.inputs)
   head_numbers ruled =
       let version = not (eqb (number_at s 3 1) 1) in
       let deep = ltb due.most (depth_at due s) in
@@ -59,7 +59,7 @@ module _ (due : Due) (s : List ℕ) where
       let both = or_none deep many (or_none version (deep || many) (head_kept due s ruled).ranged).1 in
       (ltb-false due.most (depth_at due s) both.0, ltb-false (due.nodes - due.inputs) (count_at due s) both.1)
 
-  pub depth_most : (reading due s).ruling ≡ Sound → (reading due s).sheet.depth ≤ due.most
+  pub depth_most : (reading due s).ruling ≡ Ok tt → (reading due s).sheet.depth ≤ due.most
   depth_most sound =
       let all = whole due s sound in
       omega (arith, ap (λ (x : Sheet). x.depth) all.sheet, (head_numbers all.head).0)
@@ -82,8 +82,8 @@ module _ (due : Due) (s : List ℕ) where
 
         by : (r : Ruling) → line_ruling due s at ≡ r → fault_or rest.next rest.ruling ≤ end_at s at + gates * 65538 →
             fault_or (and_field r (line_at due s at) at rest).next (and_field r (line_at due s at) at rest).ruling ≤ at + suc gates * 65538
-        by Sound ruled later = omega (arith, later, field_short at (line_kept due s at ruled).begun)
-        by (Faulty f) ruled later = omega (arith, ap (fault_or at) (sym ruled) ∙ line_place at)
+        by (Ok tt) ruled later = omega (arith, later, field_short at (line_kept due s at ruled).begun)
+        by (Err f) ruled later = omega (arith, ap (fault_or at) (sym ruled) ∙ line_place at)
 
     pub luts_place : (left least at : ℕ) → fault_or (luts_from due s left least at).next (luts_from due s left least at).ruling ≤ at + left * 65538
     unfolding luts_from
@@ -95,32 +95,32 @@ module _ (due : Due) (s : List ℕ) where
 
         by : (r : Ruling) → lut_ruling due s least at ≡ r → fault_or rest.next rest.ruling ≤ end_at s at + left * 65538 →
             fault_or (and_field r (lut_at due s at) at rest).next (and_field r (lut_at due s at) at rest).ruling ≤ at + suc left * 65538
-        by Sound ruled later = omega (arith, later, field_short at (lut_kept due s least at ruled).begun)
-        by (Faulty f) ruled later = omega (arith, ap (fault_or at) (sym ruled) ∙ lut_place least at)
+        by (Ok tt) ruled later = omega (arith, later, field_short at (lut_kept due s least at ruled).begun)
+        by (Err f) ruled later = omega (arith, ap (fault_or at) (sym ruled) ∙ lut_place least at)
 
     -- 385 fields at most
     read_place : due.nodes - due.inputs ≤ 192 → fault_or 0 (reading due s).ruling ≤ 25232130
     unfolding reading
     read_place few = by_head (head_ruling due s) refl
       where
-        by_extra : (more : Bool) → (the_luts due s).next ≤ 25232130 → fault_or 0 (cond more (Faulty (Extra (the_luts due s).next)) Sound) ≤ 25232130
+        by_extra : (more : Bool) → (the_luts due s).next ≤ 25232130 → fault_or 0 (cond more (Err (Extra (the_luts due s).next)) (Ok tt)) ≤ 25232130
         by_extra true low = low
         by_extra false low = omega arith
 
         by_luts : (r : Ruling) → fault_or (the_luts due s).next r ≤ 25232130 → fault_or 0 (after_luts due s r (the_lines due s) (the_luts due s)).ruling ≤ 25232130
-        by_luts Sound low = by_extra (ltb (the_luts due s).next (length s)) low
-        by_luts (Faulty f) low = low
+        by_luts (Ok tt) low = by_extra (ltb (the_luts due s).next (length s)) low
+        by_luts (Err f) low = low
 
-        by_lines : head_ruling due s ≡ Sound → (r : Ruling) → fault_or (the_lines due s).next r ≤ 65538 + 192 * 65538 → fault_or 0 (after_lines due s r (the_lines due s)).ruling ≤ 25232130
-        by_lines ruled Sound low =
+        by_lines : head_ruling due s ≡ Ok tt → (r : Ruling) → fault_or (the_lines due s).next r ≤ 65538 + 192 * 65538 → fault_or 0 (after_lines due s r (the_lines due s)).ruling ≤ 25232130
+        by_lines ruled (Ok tt) low =
             by_luts (the_luts due s).ruling (omega (arith, low, few, (head_numbers ruled).1, luts_place (count_at due s) due.inputs (the_lines due s).next))
-        by_lines ruled (Faulty f) low = omega (arith, low)
+        by_lines ruled (Err f) low = omega (arith, low)
 
         by_head : (r : Ruling) → head_ruling due s ≡ r → fault_or 0 (after_head due s r).ruling ≤ 25232130
-        by_head Sound ruled =
+        by_head (Ok tt) ruled =
             by_lines ruled (the_lines due s).ruling
             (omega (arith, few, field_short 0 (head_kept due s ruled).begun, lines_place (due.nodes - due.inputs) (end_at s 0)))
-        by_head (Faulty f) ruled = omega (arith, ap (fault_or 0) (sym ruled) ∙ head_place)
+        by_head (Err f) ruled = omega (arith, ap (fault_or 0) (sym ruled) ∙ head_place)
 
-    pub fault_place : due.nodes - due.inputs ≤ 192 → {f : Fault} → (reading due s).ruling ≡ Faulty f → place f ≤ 25232130
+    pub fault_place : due.nodes - due.inputs ≤ 192 → {f : Fault} → (reading due s).ruling ≡ Err f → place f ≤ 25232130
     fault_place few e = omega (arith, read_place few, ap (fault_or 0) e)

@@ -1,11 +1,11 @@
 -- What a sound shape gives the later passes: roots that rise, and a sheet that is not too long for 32-bit places.
+use Rattle.std.specs.Prelude.{Ok}
 use Prim.Native.Nat.{ℕ, zero, suc, ◌+◌, ◌-◌, ◌^◌, ◌≤◌, ◌<◌}
 use native.Mathlib.Numerals.{add-one}
 use native.Mathlib.Omega.{arith}
 use mathlib.Core.Path.{◌≡◌, ap, sym, subst}
 use mathlib.Core.List.{List}
 use lib.ListN.{length, get_or}
-use Rattle.sheet.specs.declared.Ruling.TheVariants.{Sound}
 use Rattle.sheet.specs.paper.Sheet.{Sheet, Roots}
 use Rattle.sheet.specs.paper.Shape.{Due, end_at, lut_at, lut_ruling, count_at, luts_from, reading}
 use Rattle.shaping.proofs.FieldRuns.{head_kept}
@@ -13,7 +13,7 @@ use Rattle.shaping.proofs.Found.{rest_sound, all_read, root_least, root_node, th
 use Rattle.inspecting.proofs.Places.{fault_or, head_numbers, field_short, lines_place, luts_place}
 
 module _ (due : Due) (s : List ℕ) where
-  luts_rise : (left least at : ℕ) → (luts_from due s left least at).ruling ≡ Sound → Roots due.nodes least (luts_from due s left least at).read
+  luts_rise : (left least at : ℕ) → (luts_from due s left least at).ruling ≡ Ok tt → Roots due.nodes least (luts_from due s left least at).read
   unfolding luts_from
   luts_rise zero least at sound = Roots.none
   luts_rise (suc left) least at sound =
@@ -25,7 +25,7 @@ module _ (due : Due) (s : List ℕ) where
       (Roots.more (root_least due s (suc left) least at some sound) (root_node due s (suc left) least at some sound)
       (subst (λ (n : ℕ). Roots due.nodes n rest.read) (add-one lut.root) later))
 
-  pub roots_rise : (reading due s).ruling ≡ Sound → Roots due.nodes due.inputs (reading due s).sheet.luts
+  pub roots_rise : (reading due s).ruling ≡ Ok tt → Roots due.nodes due.inputs (reading due s).sheet.luts
   roots_rise sound =
       let all = whole due s sound in
       subst (λ (sheet : Sheet). Roots due.nodes due.inputs sheet.luts) (sym all.sheet)
@@ -34,7 +34,7 @@ module _ (due : Due) (s : List ℕ) where
   -- Each field is at most 65,538 bytes long, and there are not many of them.
 
   module _ (bytes : (i : ℕ) → get_or s i 0 < 256) where
-    pub sheet_short : due.nodes - due.inputs ≤ 192 → (reading due s).ruling ≡ Sound → length s < 2 ^ 32
+    pub sheet_short : due.nodes - due.inputs ≤ 192 → (reading due s).ruling ≡ Ok tt → length s < 2 ^ 32
     sheet_short few sound =
         let all = whole due s sound in
         let lines = lines_place due s bytes (due.nodes - due.inputs) (end_at s 0) in

@@ -1,12 +1,11 @@
 -- A sheet of sound shape in arrays, and what passes two to four say of it.
-use Rattle.std.specs.Prelude.{ℕ, ◌≤◌, ◌<◌, ◌≡◌, length, get_or, take}
+use Rattle.std.specs.Prelude.{ℕ, ◌≤◌, ◌<◌, ◌≡◌, length, get_or, take, Ok, Err}
 use mathlib.Core.List.{List, [], ◌∷◌, ◌++◌, map, flat_map, Memᴰ}
 use Rattle.theory.specs.paper.Net.{Net}
 use Rattle.storage.specs.declared.Numbers.{Numbers}
 use Rattle.storage.specs.Drawings.{net_in, tables_in, Arranged}
 use Rattle.drawing.specs.paper.Limits.{most_nodes}
 use Rattle.sheet.specs.declared.Fault.{Fault}
-use Rattle.sheet.specs.declared.Ruling.TheVariants as ruling
 use Rattle.sheet.specs.paper.Limits.{most_depth}
 use Rattle.sheet.specs.paper.Sheet.{Sheet, Roots}
 use Rattle.sheet.specs.paper.Encoding.{narrow}
@@ -69,12 +68,12 @@ pub record LastRuled (k inputs nodes : ℕ) (fanins rows outputs labels roots cu
 -- A table taken, and a sheet of sound shape in bytes.
 pub record RulesAsked (k inputs nodes number : ℕ) (fanins rows outputs order t : List ℕ) : Type 0 where
   pub laid : TableLaid k inputs nodes number fanins rows outputs order
-  pub sound : (reading (due_for k inputs nodes) t).ruling ≡ ruling.Sound
+  pub sound : (reading (due_for k inputs nodes) t).ruling ≡ Ok tt
 
 -- What is said of a sheet's bytes, for the drawing that the arrays hold: pass one, then the first rule broken.
 pub data SheetRuled (k inputs nodes : ℕ) (fanins rows outputs t : List ℕ) : Inspection → Type 0 where
-  faulty : {f : Fault} → (reading (due_for k inputs nodes) t).ruling ≡ ruling.Faulty f → SheetRuled k inputs nodes fanins rows outputs t (Shape f)
-  ruled : {r : Inspection} → (reading (due_for k inputs nodes) t).ruling ≡ ruling.Sound →
+  faulty : {f : Fault} → (reading (due_for k inputs nodes) t).ruling ≡ Err f → SheetRuled k inputs nodes fanins rows outputs t (Shape f)
+  ruled : {r : Inspection} → (reading (due_for k inputs nodes) t).ruling ≡ Ok tt →
       Replies (Keeps (net_in inputs nodes fanins) (tables_in rows) k outputs (reading (due_for k inputs nodes) t).sheet)
       (rules_of (net_in inputs nodes fanins) (reading (due_for k inputs nodes) t).sheet) (reading (due_for k inputs nodes) t).sheet.depth r →
       SheetRuled k inputs nodes fanins rows outputs t r

@@ -14,10 +14,10 @@ ghost use Rattle.inspecting.specs.Holding.{LastAsked, LastRuled, TableLaid, Rule
 
 use drawing::Refusal;
 use drawing::limits::{MOST_NODES, MOST_OUTPUTS, MOST_PLACES};
-use judging::{Judged, judge_gates};
+use judging::{Broken, judge_gates};
 use shaping::{Terms, judge_shape, load_sheet};
 use sheet::limits::MOST_DEPTH;
-use sheet::{Fault, Ruling, narrow_form};
+use sheet::{Fault, narrow_form};
 use storage::{Label, Node, Numbers};
 use taking::{TakeError, take_table};
 use weighing::luts::{LutFault, judge_luts};
@@ -116,7 +116,7 @@ fn judge_lines(
     cuts: &[u16],
     places: &[u32],
     sheet: &[u8],
-) -> Judged
+) -> Result<(), Broken>
     requires nodes_le_most_nodes { numbers.nodes ≤ most_nodes }
     requires by_index { (roles : List ℕ) → numbers.nodes ≤ length roles → JudgeAsked numbers.k.leaves numbers.inputs numbers.nodes
         fanins.now order.now (lined_of narrow labels.now cuts.now places.now sheet.now) roles }
@@ -165,10 +165,10 @@ fn judge_rules(
     let second = judge_lines(numbers, fanins, order, &labels, &cuts, &places, sheet);
     let mut roles = [0u8; MOST_NODES];
     match second {
-        Judged::Cut(gate) => Inspection::Cut(gate),
-        Judged::Label(gate) => Inspection::Label(gate),
-        Judged::Paths(gate) => Inspection::Paths(gate),
-        Judged::Kept => judge_last(
+        Err(Broken::Cut(gate)) => Inspection::Cut(gate),
+        Err(Broken::Label(gate)) => Inspection::Label(gate),
+        Err(Broken::Paths(gate)) => Inspection::Paths(gate),
+        Ok(()) => judge_last(
             numbers, fanins, rows, order, outputs, &labels, &luts, &lut_cuts, &tables, head,
             &mut roles,
         ),
@@ -189,10 +189,9 @@ fn judge_sheet(
     ensures { SheetRuled numbers.k.leaves numbers.inputs numbers.nodes fanins.now rows.now
         (take numbers.roots outputs.now) sheet.now result }
 {
-    let shape = judge_shape(terms_for(numbers), sheet);
-    match shape {
-        Ruling::Faulty(fault) => Inspection::Shape(fault),
-        Ruling::Sound => judge_rules(numbers, fanins, rows, outputs, order, sheet),
+    match judge_shape(terms_for(numbers), sheet) {
+        Err(fault) => Inspection::Shape(fault),
+        Ok(()) => judge_rules(numbers, fanins, rows, outputs, order, sheet),
     }
 }
 

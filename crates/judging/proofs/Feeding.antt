@@ -1,18 +1,19 @@
--- The test of a fanin by a loop over the fanins.
-use Prim.Native.Nat.{ℕ, ◌+◌, ◌*◌, ◌≤◌, ◌<◌}
-use mathlib.Core.Path.{◌≡◌, sym}
-use mathlib.Core.Bool.{true, false}
-use mathlib.Core.List.Memᴰ
-use mathlib.Core.List.{List}
-use lib.ListN.{length}
+-- The test of a fanin by the library's search of a slice.
+use Prim.Native.Nat.{ℕ}
+use mathlib.Core.Path.{◌≡◌, refl, ap, sym, ◌∙◌}
+use mathlib.Core.Bool.{Bool, true, false, ◌||◌}
+use mathlib.Core.List.{List, [], ◌∷◌}
+use borrow.Author.Tests.{eqb-true, eqb-false, eq-eqb, ne_eqb}
+use lib.Dec.{eqb}
+use Rattle.std.specs.List.{list_any}
 use Rattle.theory.specs.Members.{is_member}
-use Rattle.storage.specs.Lists.{size_at, entry_at, list_at}
-use Rattle.storage.proofs.Entries.{is_member_lem, no_member}
-use Rattle.storage.proofs.InLists.{list_member, list_place}
 
-module _ (fanins : List ℕ) (gate node : ℕ) (long : 7 * gate + 7 ≤ length fanins) (six : size_at fanins gate ≤ 6) where
-  pub fanin_found : (i : ℕ) → i < size_at fanins gate → entry_at fanins gate i ≡ node → is_member node (list_at fanins gate) ≡ true
-  fanin_found i low e = is_member_lem (Memᴰ.cast (sym e) (list_member fanins gate long six i low))
+swapped : (u v : ℕ) (same : Bool) → eqb v u ≡ same → eqb u v ≡ same
+swapped u v true e = eq-eqb u v (sym (eqb-true v u e))
+swapped u v false e = ne_eqb u v (λ s. eqb-false v u e (sym s))
 
-  pub no_fanin : ((i : ℕ) → i < size_at fanins gate → entry_at fanins gate i ≡ node → ⊥) → is_member node (list_at fanins gate) ≡ false
-  no_fanin none = no_member (λ m. let (i, low, e) = list_place fanins gate long six m in none i low e)
+pub found_in : (v : ℕ) (us : List ℕ) → list_any (λ u. eqb u v) us ≡ is_member v us
+unfolding is_member
+found_in v [] = refl
+found_in v (u ∷ us) =
+    ap (λ (b : Bool). b || list_any (λ w. eqb w v) us) (swapped u v (eqb v u) refl) ∙ ap (λ (b : Bool). eqb v u || b) (found_in v us)

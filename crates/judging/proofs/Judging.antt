@@ -1,5 +1,6 @@
 -- A gate of a drawing whose sheet's lines stand in arrays and bytes: what the three tests ask is there, and what they tell in terms of the
 -- arrays is what the rules say of the lines.
+use Rattle.std.specs.Prelude.{Ok, Err}
 use Prim.Native.Nat.{ℕ, ◌+◌, ◌*◌, ◌≤◌, ◌<◌}
 use native.Mathlib.Omega.{arith}
 use mathlib.Core.Path.{◌≡◌, sym, ap, subst, ◌∙◌}
@@ -20,7 +21,7 @@ use Rattle.walking.specs.Promises.{CutRuled}
 use Rattle.area.specs.Area.{label_in, PeakIn}
 use Rattle.sheet.specs.paper.Sheet.{Line}
 use Rattle.sheet.specs.paper.Rules.{LabelKept, PathsKept, line_of_node, labels_of}
-use Rattle.judging.specs.declared.Judged.TheVariants as judged
+use Rattle.judging.specs.declared.Broken.TheVariants as broken
 use Rattle.judging.specs.Gates.{line_paths_in, CutAsked, LabelAsked, LabelRight, PathsRuleAsked, Told, Lined, HoldsSheet, JudgeAsked, GateAsked, GatesTried}
 use Rattle.judging.proofs.Lines.{line_sound}
 use Rattle.judging.proofs.Agreeing.{label_kept, label_right, paths_agree}
@@ -120,7 +121,7 @@ module _ {k inputs nodes : ℕ} {fanins order : List ℕ} {l : Lined} {node : No
     unfolding net_in
     walk_rest = cut.walk.rest
 
-    pub tried_cut : r₁ ≡ false → GatesTried k inputs nodes fanins l (node.id ∷ []) roles (judged.Cut node) roles₁
+    pub tried_cut : r₁ ≡ false → GatesTried k inputs nodes fanins l (node.id ∷ []) roles (Err (broken.Cut node)) roles₁
     unfolding net_in
     tried_cut fails =
         record {
@@ -158,7 +159,7 @@ module _ {k inputs nodes : ℕ} {fanins order : List ℕ} {l : Lined} {node : No
             paths_agree (λ v b. sym (behind_agree holds v b)) (sym (labels_agree holds node.id here))
             (subst (PathsKept (net_in inputs nodes fanins) k (labels_of inputs lines) node.id) (sym (paths_same holds)) kept)
 
-      pub tried_label : r₂ ≡ false → GatesTried k inputs nodes fanins l (node.id ∷ []) roles (judged.Label node) roles₁
+      pub tried_label : r₂ ≡ false → GatesTried k inputs nodes fanins l (node.id ∷ []) roles (Err (broken.Label node)) roles₁
       unfolding net_in
       tried_label fails =
           record {
@@ -170,7 +171,7 @@ module _ {k inputs nodes : ℕ} {fanins order : List ℕ} {l : Lined} {node : No
       module _ (yes₂ : r₂ ≡ true) {r₃ : Bool} {roles₂ : List ℕ}
           (paths : Told nodes (PathsKept (net_in inputs nodes fanins) k (label_in l.labels) node.id (line_paths_in l.form l.bytes (get_or l.places node.id 0)))
           roles₁ r₃ roles₂) where
-        pub tried_paths : r₃ ≡ false → GatesTried k inputs nodes fanins l (node.id ∷ []) roles (judged.Paths node) roles₂
+        pub tried_paths : r₃ ≡ false → GatesTried k inputs nodes fanins l (node.id ∷ []) roles (Err (broken.Paths node)) roles₂
         unfolding net_in
         tried_paths fails =
             record {
@@ -179,7 +180,7 @@ module _ {k inputs nodes : ℕ} {fanins order : List ℕ} {l : Lined} {node : No
               rest = beyond_then walk_rest paths.rest;
             }
 
-        pub tried_all : r₃ ≡ true → GatesTried k inputs nodes fanins l (node.id ∷ []) roles judged.Kept roles₂
+        pub tried_all : r₃ ≡ true → GatesTried k inputs nodes fanins l (node.id ∷ []) roles (Ok tt) roles₂
         unfolding net_in
         tried_all yes₃ =
             record {

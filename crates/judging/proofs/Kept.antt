@@ -1,33 +1,29 @@
 -- Each of the three rules at a gate: what the functions that a test calls ask is there, and what they say is what the rule says.
-use Prim.Native.Nat.{ℕ, zero, suc, ◌+◌, ◌*◌, ◌≤◌, ◌<◌}
+use Prim.Native.Nat.{ℕ, zero, suc, ◌+◌, ◌≤◌, ◌<◌}
 use native.Mathlib.Omega.{arith}
 use mathlib.Core.Path.{◌≡◌, refl, sym, ap, ◌∙◌}
-use mathlib.Core.Logic.{inl, inr, ⊎_elim}
-use mathlib.Core.Bool.{Bool, true, false, false≢true}
-use mathlib.Core.List.{List, [], map}
-use lib.ListN.{length, drop, length-drop}
+use mathlib.Core.Bool.{Bool, false, false≢true}
+use mathlib.Core.List.{List, []}
+use lib.ListN.{length}
 use lib.Dec.{eqb}
 use Rattle.storage.specs.Marks.{Tells}
-use Rattle.storage.specs.Lists.{size_at}
 use Rattle.storage.specs.Roles.{area_bit, area_in, ends_in}
 use Rattle.storage.specs.Drawings.{net_in}
 use Rattle.storage.proofs.Clears.{beyond_then}
 use Rattle.storage.proofs.Views.{view_size}
 use Rattle.storage.proofs.Drawings.{gate_below, fed_in}
-use Rattle.storage.proofs.InMarks.{tells_yes, tells_no}
+use Rattle.storage.proofs.InMarks.{tells_no}
 use Rattle.theory.specs.paper.Net.{Net}
-use Rattle.theory.specs.paper.Lists.{greatest}
 use Rattle.theory.specs.paper.Evidence.{peak, Owes, joined}
 use Rattle.theory.proofs.Tests.{Decides, decides_as, decides_equal}
 use Rattle.drawing.specs.paper.Bytes.{number_at}
 use Rattle.walking.specs.Promises.{WalkRoom, WalkMade}
 use Rattle.area.specs.Area.{label_in, AreaAsked, AreaMarked}
-use Rattle.covering.specs.Covers.{DepthAsked}
 use Rattle.sheet.specs.declared.Form.{Form}
 use Rattle.sheet.specs.paper.Shape.{path_end, paths_at}
 use Rattle.sheet.specs.paper.Rules.{PathsKept}
 use Rattle.judging.specs.Paths.{are_paths, PathsAsked, PathsTold}
-use Rattle.judging.specs.Gates.{LabelAsked, LabelRight, AtGate, EvidenceAsked, TruePaths, Told, PathsRuleAsked, paths_place}
+use Rattle.judging.specs.Gates.{AtGate, EvidenceAsked, TruePaths, Told, PathsRuleAsked, paths_place}
 use Rattle.judging.proofs.True.{decides_evidence}
 use Rattle.judging.proofs.Lines.{paths_stand}
 
@@ -35,28 +31,6 @@ use Rattle.judging.proofs.Lines.{paths_stand}
 pub tells_decided : {test r : Bool} {P : Type 0} → Decides test P → r ≡ test → Tells P r
 tells_decided decides e =
     record { yes = λ yes. decides.holds (sym e ∙ yes); no = λ no p. false≢true (sym no ∙ e ∙ decides.passes p) }
-
--- Rule 26: the label
-
-pub depth_asked : {labels cuts : List ℕ} {t : ℕ} → LabelAsked labels cuts t → DepthAsked labels (drop (7 * t + 1) cuts) (size_at cuts t)
-depth_asked {cuts = cuts} {t = t} asked =
-    record { outputs_long = omega (arith, asked.long, asked.six, length-drop (7 * t + 1) cuts); labelled = asked.leaves_labelled }
-
-module _ {lab : ℕ → ℕ} {leaves : List ℕ} (p t : ℕ) {label deepest : ℕ} (read : label ≡ lab t) (greatest-read : deepest ≡ greatest (map lab leaves)) where
-  pub label_unshown : (label ≡ deepest + 1 → ⊥) → Tells (LabelRight lab leaves p t) false
-  label_unshown other = tells_no (λ right. other (omega (arith, right.shown)))
-
-  pub label_at_peak : label ≡ deepest + 1 → label ≡ p → Tells (LabelRight lab leaves p t) true
-  label_at_peak shown e = tells_yes (record { shown = omega arith; near = inl (omega arith) })
-
-  pub label_above : label ≡ deepest + 1 → (label ≡ p → ⊥) → {r : Bool} → r ≡ eqb label (p + 1) → Tells (LabelRight lab leaves p t) r
-  label_above shown apart e =
-      tells_decided
-      (decides_as
-      (λ (same : label ≡ p + 1). record { shown = omega arith; near = inr (omega arith) })
-      (λ right. ⊎_elim (λ (f : lab t ≡ p). absurd (apart (read ∙ f))) (λ (f : lab t ≡ suc p). omega arith) right.near)
-      (decides_equal label (p + 1)))
-      e
 
 -- Rule 27: the paths
 

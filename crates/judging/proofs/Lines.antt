@@ -1,4 +1,5 @@
 -- What a line that is in shape says: each rule of shape read the other way round.
+use Rattle.std.specs.Prelude.{Ok, Err}
 use Prim.Native.Nat.{ℕ, ◌+◌, ◌-◌, ◌≤◌}
 use native.Mathlib.Omega.{arith}
 use mathlib.Core.Path.{◌≡◌, refl}
@@ -14,8 +15,7 @@ use Rattle.drawing.specs.paper.Bytes.{tag_at, length_at, value_at, number_at, so
 use Rattle.drawing.proofs.SoundFields.{neither}
 use Rattle.sheet.specs.declared.Form.{Form}
 use Rattle.sheet.specs.declared.Fault.{Fault}
-use Rattle.sheet.specs.declared.Ruling.{Ruling}
-use Rattle.sheet.specs.declared.Ruling.TheVariants.{Sound, Faulty}
+use Rattle.sheet.specs.paper.Shape.{Ruling}
 use Rattle.sheet.specs.paper.Shape.{Due, end_at, rising, paths_use, some_empty, leaves_range, line_cut, line_paths, line_at, line_length_wrong, line_range, line_ruling}
 use Rattle.sheet.specs.Shape.{Below, due_from}
 use Rattle.judging.specs.Paths.{PathsStand}
@@ -29,7 +29,7 @@ none_from n (u ∷ vs) e v m =
     ⊎_elim (λ (same : v ≡ u). let low = leb-false n u both.0 in omega arith) (λ (later : Memᴰ v vs). none_from n vs both.1 v later) (Memᴰ.cases_cons m)
 
 -- a rule that refuses did not hold
-passed : (b : Bool) (f : Fault) (rest : Ruling) → cond b (Faulty f) rest ≡ Sound → (b ≡ false) × (rest ≡ Sound)
+passed : (b : Bool) (f : Fault) (rest : Ruling) → cond b (Err f) rest ≡ Ok tt → (b ≡ false) × (rest ≡ Ok tt)
 passed true f rest e = absurd (let z : ◌≡◌ {A = ℕ} 0 1 = cc in omega arith)
 passed false f rest e = (refl, e)
 
@@ -42,7 +42,7 @@ pub record SoundLine (due : Due) (s : List ℕ) (at : ℕ) : Type 0 where
   pub filled : some_empty (line_at due s at).paths ≡ false
   pub ids_below : Below due.nodes (joined (line_at due s at).paths)
 
-pub line_sound : (due : Due) (s : List ℕ) (at : ℕ) → line_ruling due s at ≡ Sound → SoundLine due s at
+pub line_sound : (due : Due) (s : List ℕ) (at : ℕ) → line_ruling due s at ≡ Ok tt → SoundLine due s at
 unfolding line_ruling
 line_sound due s at e =
     let begun = passed (ltb (length s - at) 3) _ _ e in

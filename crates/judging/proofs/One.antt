@@ -1,4 +1,5 @@
 -- Two answers that the promise of pass two allows are equal.
+use Rattle.std.specs.Prelude.{Ok, Err}
 use Prim.Native.Nat.{ℕ}
 use mathlib.Core.Path.{◌≡◌, refl, sym, ap, ◌∙◌}
 use mathlib.Core.List.{List, []}
@@ -6,25 +7,25 @@ use Rattle.storage.specs.Drawings.{net_in}
 use Rattle.sheet.specs.paper.Sheet.{Line, Sheet}
 use Rattle.sheet.specs.paper.Rules.{Rule, Found}
 use Rattle.sheet.proofs.Firsts.{first_is_one}
-use Rattle.judging.specs.declared.Judged.{Judged}
-use Rattle.judging.specs.declared.Judged.TheVariants as judged
+use Rattle.judging.specs.Gates.{Judged}
+use Rattle.judging.specs.declared.Broken.TheVariants as broken
 use Rattle.judging.specs.Gates.{found_of, Lined, JudgeAsked, GatesJudged}
 
 -- the reply that names a rule
 abbrev reply_of : Found → Judged
-reply_of Found.none = judged.Kept
-reply_of (Found.broken (Rule.cut gate leaves)) = judged.Cut (record { id = gate })
-reply_of (Found.broken (Rule.label gate)) = judged.Label (record { id = gate })
-reply_of (Found.broken (Rule.paths gate)) = judged.Paths (record { id = gate })
-reply_of (Found.broken (Rule.function lut)) = judged.Kept
-reply_of (Found.broken (Rule.cover gate)) = judged.Kept
-reply_of (Found.broken Rule.depth) = judged.Kept
+reply_of Found.none = Ok tt
+reply_of (Found.broken (Rule.cut gate leaves)) = Err (broken.Cut (record { id = gate }))
+reply_of (Found.broken (Rule.label gate)) = Err (broken.Label (record { id = gate }))
+reply_of (Found.broken (Rule.paths gate)) = Err (broken.Paths (record { id = gate }))
+reply_of (Found.broken (Rule.function lut)) = Ok tt
+reply_of (Found.broken (Rule.cover gate)) = Ok tt
+reply_of (Found.broken Rule.depth) = Ok tt
 
 reply_back : (inputs : ℕ) (lines : List Line) (r : Judged) → reply_of (found_of inputs lines r) ≡ r
-reply_back inputs lines judged.Kept = refl
-reply_back inputs lines (judged.Cut gate) = refl
-reply_back inputs lines (judged.Label gate) = refl
-reply_back inputs lines (judged.Paths gate) = refl
+reply_back inputs lines (Ok tt) = refl
+reply_back inputs lines (Err (broken.Cut gate)) = refl
+reply_back inputs lines (Err (broken.Label gate)) = refl
+reply_back inputs lines (Err (broken.Paths gate)) = refl
 
 module _ {k inputs nodes : ℕ} {fanins order : List ℕ} {l : Lined} {roles : List ℕ} (asked : JudgeAsked k inputs nodes fanins order l roles)
     {r q : Judged} {roles' roles'' : List ℕ} (a : GatesJudged k inputs nodes fanins l roles r roles') (b : GatesJudged k inputs nodes fanins l roles q roles'') where

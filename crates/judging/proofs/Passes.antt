@@ -1,8 +1,8 @@
 -- Pass two: from gate t on the answer is that from the first gate on; and the roles are cleared at the end.
+use Rattle.std.specs.Prelude.{Ok, Err}
 use Prim.Native.Nat.{ℕ, ◌+◌, ◌-◌, ◌≤◌, ◌<◌}
 use native.Mathlib.Omega.{arith}
-use mathlib.Core.Path.{◌≡◌, refl, sym, ap, subst, ◌∙◌}
-use mathlib.Core.Bool.{true, false, false≢true}
+use mathlib.Core.Path.{◌≡◌, sym, subst, ◌∙◌}
 use mathlib.Core.List.{List, [], ◌∷◌}
 use Rattle.storage.specs.declared.Node.{Node}
 use Rattle.storage.specs.Entries.{cleared, Beyond}
@@ -10,20 +10,14 @@ use Rattle.storage.specs.Drawings.{net_in}
 use Rattle.storage.proofs.Clears.{beyond_same, beyond_then, cleared_used}
 use Rattle.storage.proofs.Drawings.{drawn_span, gate_of_lem}
 use Rattle.sheet.specs.paper.Rules.{from, gates}
-use Rattle.judging.specs.declared.Judged.{Judged}
-use Rattle.judging.specs.declared.Judged.TheVariants as judged
-use Rattle.judging.specs.Gates.{is_kept, Lined, JudgeAsked, GateAsked, JudgesHeld, GatesTried, GatesJudged}
+use Rattle.judging.specs.Gates.{Judged}
+use Rattle.judging.specs.declared.Broken.{Broken}
+use Rattle.judging.specs.Gates.{Lined, JudgeAsked, GateAsked, JudgesHeld, GatesTried, GatesJudged}
 use Rattle.judging.proofs.Firsts.{none_judged, kept_first, broken_first}
 use Rattle.sheet.proofs.Firsts.{from_more, from_none}
 
-kept_is : (r : Judged) → is_kept r ≡ true → r ≡ judged.Kept
-kept_is judged.Kept e = refl
-kept_is (judged.Cut gate) e = absurd (false≢true e)
-kept_is (judged.Label gate) e = absurd (false≢true e)
-kept_is (judged.Paths gate) e = absurd (false≢true e)
-
-kept_not : (r : Judged) → is_kept r ≡ false → r ≡ judged.Kept → ⊥
-kept_not r e same = false≢true (sym e ∙ ap is_kept same)
+broken_not_kept : {b : Broken} → ◌≡◌ {A = Judged} (Err b) (Ok tt) → ⊥
+broken_not_kept e = let z : ◌≡◌ {A = ℕ} 0 1 = cc in omega arith
 
 -- all gates before t keep their rules
 pub record Trying (k inputs nodes : ℕ) (fanins : List ℕ) (l : Lined) (roles : List ℕ) (t : ℕ) (roles' : List ℕ) : Type 0 where
@@ -53,9 +47,8 @@ module _ {k inputs nodes : ℕ} {fanins order : List ℕ} {l : Lined} {roles : L
         }
 
     module _ {r : Judged} {roles'' : List ℕ} (tried : GatesTried k inputs nodes fanins l (t ∷ []) roles' r roles'') where
-      pub trying_more : t < nodes → is_kept r ≡ true → Trying k inputs nodes fanins l roles (t + 1) roles''
-      trying_more low passes =
-          let kept = kept_is r passes in
+      pub trying_more : t < nodes → r ≡ Ok tt → Trying k inputs nodes fanins l roles (t + 1) roles''
+      trying_more low kept =
           record {
             above = omega (arith, trying.above);
             below = omega arith;
@@ -67,23 +60,25 @@ module _ {k inputs nodes : ℕ} {fanins order : List ℕ} {l : Lined} {roles : L
             rest = beyond_then trying.rest tried.rest;
           }
 
-      pub trying_stops : t < nodes → is_kept r ≡ false → GatesTried k inputs nodes fanins l (gates (net_in inputs nodes fanins)) roles r roles''
+      pub trying_stops : t < nodes → {b : Broken} → r ≡ Err b →
+          GatesTried k inputs nodes fanins l (gates (net_in inputs nodes fanins)) roles (Err b) roles''
       unfolding net_in
-      trying_stops low fails =
+      trying_stops low {b} fails =
+          let as_told = subst (λ (x : Judged). JudgesHeld k inputs nodes fanins l (t ∷ []) x) fails tried.reply in
           record {
             reply =
-                trying.on r (subst (λ (ts : List ℕ). JudgesHeld k inputs nodes fanins l ts r) (sym (from_more t nodes low))
+                trying.on (Err b) (subst (λ (ts : List ℕ). JudgesHeld k inputs nodes fanins l ts (Err b)) (sym (from_more t nodes low))
                 (λ most lines holds.
-                broken_first (net_in inputs nodes fanins) k lines t (from (t + 1) (nodes - (t + 1))) r (kept_not r fails) (tried.reply most lines holds)));
+                broken_first (net_in inputs nodes fanins) k lines t (from (t + 1) (nodes - (t + 1))) (Err b) broken_not_kept (as_told most lines holds)));
             rest = beyond_then trying.rest tried.rest;
           }
 
-    pub trying_ends : nodes ≤ t → GatesTried k inputs nodes fanins l (gates (net_in inputs nodes fanins)) roles judged.Kept roles'
+    pub trying_ends : nodes ≤ t → GatesTried k inputs nodes fanins l (gates (net_in inputs nodes fanins)) roles (Ok tt) roles'
     unfolding net_in
     trying_ends all =
         record {
           reply =
-              trying.on judged.Kept (subst (λ (ts : List ℕ). JudgesHeld k inputs nodes fanins l ts judged.Kept) (sym (from_none t nodes all))
+              trying.on (Ok tt) (subst (λ (ts : List ℕ). JudgesHeld k inputs nodes fanins l ts (Ok tt)) (sym (from_none t nodes all))
               (λ most lines holds. none_judged (net_in inputs nodes fanins) k lines));
           rest = trying.rest;
         }

@@ -20,7 +20,7 @@ use Rattle.drawing.proofs.SoundFields.{neither}
 use Rattle.theory.specs.Members.{is_member}
 use Rattle.sheet.specs.paper.Shape.{path_end, paths_at, paths_use, some_empty}
 use Rattle.sheet.specs.Shape.{Below}
-use Rattle.judging.specs.Paths.{is_marked, after_path, goes_on, is_path, are_paths, Taken, PathRoom, IdsStand, GoesAsked, PathAsked, PathTold, PathsStand, PathsAsked, PathsTold}
+use Rattle.judging.specs.Paths.{is_marked, after_path, goes_on, is_path, are_paths, Taken, PathRoom, IdsStand, GoesAsked, PathAsked, PathTold, PathsStand, PathsTold}
 use Rattle.judging.proofs.Taking.{taken_area, taken_ends, taken_size, taken_beyond}
 
 -- Ids
@@ -68,10 +68,6 @@ module _ {nodes : ℕ} {fanins roles : List ℕ} (room : PathRoom nodes fanins r
   pub follows_asks : (v : ℕ) → v < nodes → (7 * v + 7 ≤ length fanins) × ((size_at fanins v ≤ 6) × (v < length roles))
   follows_asks v low = let fed = room.fed v low in (fed.long, (fed.six, omega (arith, room.roles_long)))
 
-and_second : (a b : Bool) → (a && b) ≡ true → b ≡ true
-and_second true b e = e
-and_second false b e = absurd (false≢true e)
-
 -- The state of a path that has come to node u by the ids before place `at`; it started at u₀ with roles₀.
 pub record Going (fanins : List ℕ) (u₀ : ℕ) (s : List ℕ) (at₀ width size₀ : ℕ) (roles₀ : List ℕ) (u at size : ℕ) (roles : List ℕ) : Type 0 where
   pub nodes : ℕ
@@ -87,21 +83,6 @@ pub record Going (fanins : List ℕ) (u₀ : ℕ) (s : List ℕ) (at₀ width si
   pub long : length roles ≡ length roles₀
 
 module _ {fanins : List ℕ} {u₀ : ℕ} {s : List ℕ} {at₀ width size₀ : ℕ} {roles₀ : List ℕ} where
-  pub going_starts : GoesAsked fanins u₀ s at₀ width size₀ roles₀ → Going fanins u₀ s at₀ width size₀ roles₀ u₀ at₀ size₀ roles₀
-  going_starts asked =
-      record {
-        nodes = asked.nodes;
-        room = asked.room;
-        stand = asked.stand;
-        node = asked.node;
-        answer = refl;
-        taken = refl;
-        ends_still = refl;
-        beyond = λ n _. beyond_same n roles₀;
-        later = λ v m. m;
-        long = refl;
-      }
-
   module _ {u at size : ℕ} {roles : List ℕ} (going : Going fanins u₀ s at₀ width size₀ roles₀ u at size roles) where
     module _ (some : 1 ≤ size) {v : ℕ} (read : v ≡ number_at s at width) where
       pub next_node : v < going.nodes
@@ -109,10 +90,6 @@ module _ {fanins : List ℕ} {u₀ : ℕ} {s : List ℕ} {at₀ width size₀ : 
 
       pub follows_here : (7 * v + 7 ≤ length fanins) × ((size_at fanins v ≤ 6) × (v < length roles))
       follows_here = follows_asks going.room v next_node
-
-      -- where the path can go on, the next node is free
-      pub next_free : (is_member u (list_at fanins v) && is_marked (area_in roles) v) ≡ true → is_marked (area_in roles) v ≡ true
-      next_free follows = and_second (is_member u (list_at fanins v)) (is_marked (area_in roles) v) follows
 
       ids_here : ids_at s at width size ≡ v ∷ ids_at s (at + width) width (size - 1)
       ids_here = rw read (ids_cons s at width size some)
@@ -332,19 +309,6 @@ pub record Passing (fanins : List ℕ) (inputs : ℕ) (s : List ℕ) (at₀ widt
   pub long : length roles ≡ length roles₀
 
 module _ {fanins : List ℕ} {inputs : ℕ} {s : List ℕ} {at₀ width q₀ : ℕ} {roles₀ : List ℕ} where
-  pub passing_starts : PathsAsked fanins s at₀ width q₀ roles₀ → Passing fanins inputs s at₀ width q₀ roles₀ at₀ q₀ roles₀
-  passing_starts asked =
-      record {
-        nodes = asked.nodes;
-        room = asked.room;
-        stand = asked.stand;
-        answer = refl;
-        ends_still = refl;
-        beyond = λ n _. beyond_same n roles₀;
-        later = λ v m. m;
-        long = refl;
-      }
-
   module _ {at q : ℕ} {roles : List ℕ} (passing : Passing fanins inputs s at₀ width q₀ roles₀ at q roles) where
     module _ (some : 1 ≤ q) {size : ℕ} (read : size ≡ number_at s at width) where
       pub path_asked : PathAsked fanins s (at + width) width size roles

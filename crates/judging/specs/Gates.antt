@@ -1,5 +1,5 @@
 -- Rules 25, 26 and 27 at the gates: what each test asks and tells, and pass two.
-use Rattle.std.specs.Prelude.{ℕ, suc, ◌+◌, ◌*◌, ◌≤◌, ◌<◌, ◌≡◌, Bool, true, false, ◌⊎◌, length, drop}
+use Rattle.std.specs.Prelude.{Result, ℕ, suc, ◌+◌, ◌*◌, ◌≤◌, ◌<◌, ◌≡◌, Bool, ◌⊎◌, length, drop, Ok, Err}
 use mathlib.Core.List.{List, map, flat_map, Memᴰ}
 use Rattle.theory.specs.paper.Net.{Net, Gate}
 use Rattle.theory.specs.paper.Lists.{NoRepeats, greatest}
@@ -12,14 +12,13 @@ use Rattle.drawing.specs.paper.Bytes.{number_at}
 use Rattle.walking.specs.Promises.{WalkRoom}
 use Rattle.area.specs.Area.{label_in}
 use Rattle.sheet.specs.declared.Form.{Form}
-use Rattle.sheet.specs.declared.Ruling.TheVariants.{Sound}
 use Rattle.sheet.specs.paper.Sheet.{Line, Sheet}
 use Rattle.sheet.specs.paper.Shape.{paths_at, line_paths, line_ruling}
 use Rattle.sheet.specs.Shape.{due_from}
 use Rattle.sheet.specs.paper.Rules.{Rule, Found, FirstBroken, Keeps, line_of_node, gate_rules, gates}
 use Rattle.sheet.specs.Arrays.{HoldsLines, HoldsPlaces}
-use Rattle.judging.specs.declared.Judged.{Judged}
-use Rattle.judging.specs.declared.Judged.TheVariants as judged
+use Rattle.judging.specs.declared.Broken.{Broken}
+use Rattle.judging.specs.declared.Broken.TheVariants as broken
 use Rattle.judging.specs.Paths.{PathsStand}
 
 -- where the line at `at` has its q, and the paths behind it; K, I and n have no part in that
@@ -77,7 +76,7 @@ pub record Told (nodes : ℕ) (P : Type 0) (roles : List ℕ) (r : Bool) (roles'
 pub record LineStands (form : Form) (k inputs nodes : ℕ) (bytes : List ℕ) (at : ℕ) : Type 0 where
   pub most : ℕ
   pub narrow : form.width ≤ 8
-  pub sound : line_ruling (due_from form most k inputs nodes) bytes at ≡ Sound
+  pub sound : line_ruling (due_from form most k inputs nodes) bytes at ≡ Ok tt
 
 pub record PathsRuleAsked (form : Form) (inputs nodes k : ℕ) (fanins order : List ℕ) (t : ℕ) (labels : List ℕ) (p : ℕ) (bytes : List ℕ) (at : ℕ)
     (roles : List ℕ) : Type 0 where
@@ -86,18 +85,16 @@ pub record PathsRuleAsked (form : Form) (inputs nodes k : ℕ) (fanins order : L
 
 -- Pass two
 
+-- the reply: all rules are kept, or the first that is not
+abbrev pub Judged : Type 0
+Judged = Result (Unit {0}) Broken
+
 -- the rule that a reply names
 abbrev pub found_of : (inputs : ℕ) → List Line → Judged → Found
-found_of inputs lines judged.Kept = Found.none
-found_of inputs lines (judged.Cut gate) = Found.broken (Rule.cut gate.id (line_of_node inputs lines gate.id).leaves)
-found_of inputs lines (judged.Label gate) = Found.broken (Rule.label gate.id)
-found_of inputs lines (judged.Paths gate) = Found.broken (Rule.paths gate.id)
-
-abbrev pub is_kept : Judged → Bool
-is_kept judged.Kept = true
-is_kept (judged.Cut gate) = false
-is_kept (judged.Label gate) = false
-is_kept (judged.Paths gate) = false
+found_of inputs lines (Ok tt) = Found.none
+found_of inputs lines (Err (broken.Cut gate)) = Found.broken (Rule.cut gate.id (line_of_node inputs lines gate.id).leaves)
+found_of inputs lines (Err (broken.Label gate)) = Found.broken (Rule.label gate.id)
+found_of inputs lines (Err (broken.Paths gate)) = Found.broken (Rule.paths gate.id)
 
 -- "Pass two tries 25, 26, 27 on each gate": the reply names the first rule that is not kept at these gates, in every sheet with these lines.
 abbrev pub Judges : Net → (k : ℕ) → List Line → List ℕ → Judged → Type 0

@@ -7,15 +7,14 @@ mod rules;
 ghost use Rattle.std.specs.Prelude.{◌≡◌, [], ◌∷◌};
 ghost use Rattle.storage.specs.Drawings.{net_in};
 ghost use Rattle.sheet.specs.paper.Rules.{gates};
-ghost use Rattle.judging.specs.Gates.{is_kept, lined_of, JudgeAsked, GateAsked, GatesTried, GatesJudged};
+ghost use Rattle.judging.specs.Gates.{lined_of, JudgeAsked, GateAsked, GatesTried, GatesJudged};
 
 use sheet::Form;
 use storage::{Node, Numbers, fill};
 
-// The first rule that is not kept, with its gate.
+// A rule that is not kept, with its gate.
 #[derive(Clone, Copy)]
-pub enum Judged {
-    Kept,
+pub enum Broken {
     Cut(Node),
     Label(Node),
     Paths(Node),
@@ -33,38 +32,27 @@ fn judge_gate(
     sheet: &[u8],
     gate: Node,
     roles: &mut [u8],
-) -> Judged
+) -> Result<(), Broken>
     requires { GateAsked numbers.k.leaves numbers.inputs numbers.nodes fanins.now order.now
         (lined_of form labels.now cuts.now places.now sheet.now) gate.id roles.old }
     ensures { GatesTried numbers.k.leaves numbers.inputs numbers.nodes fanins.now
         (lined_of form labels.now cuts.now places.now sheet.now) (gate.id ∷ []) roles.old result roles.new }
 {
     if !rules::keeps_cut(numbers, fanins, order, gate, cuts, roles) {
-        return Judged::Cut(gate);
+        return Err(Broken::Cut(gate));
     }
     let p = area::peak(fanins, gate, labels);
     if !rules::keeps_label(labels, cuts, gate, p) {
-        return Judged::Label(gate);
+        return Err(Broken::Label(gate));
     }
     let v = gate.id as usize;
     let at = places[v] as usize;
     if !rules::keeps_paths(
         form, numbers, fanins, order, labels, gate, p, sheet, at, roles,
     ) {
-        return Judged::Paths(gate);
+        return Err(Broken::Paths(gate));
     }
-    Judged::Kept
-}
-
-fn is_kept(found: Judged) -> bool
-    ensures { result ≡ is_kept found }
-{
-    match found {
-        Judged::Kept => true,
-        Judged::Cut(_) => false,
-        Judged::Label(_) => false,
-        Judged::Paths(_) => false,
-    }
+    Ok(())
 }
 
 // The three rules at each gate, gates rising.
@@ -78,26 +66,20 @@ fn first_broken(
     places: &[u32],
     sheet: &[u8],
     roles: &mut [u8],
-) -> Judged
+) -> Result<(), Broken>
     requires { JudgeAsked numbers.k.leaves numbers.inputs numbers.nodes fanins.now order.now
         (lined_of form labels.now cuts.now places.now sheet.now) roles.old }
     ensures { GatesTried numbers.k.leaves numbers.inputs numbers.nodes fanins.now
         (lined_of form labels.now cuts.now places.now sheet.now)
         (gates (net_in numbers.inputs numbers.nodes fanins.now)) roles.old result roles.new }
 {
-    let nodes = numbers.nodes;
-    let mut t = numbers.inputs;
-    while t < nodes {
+    for t in numbers.inputs..numbers.nodes {
         let gate = Node { id: t as u16 };
-        let found = judge_gate(
+        judge_gate(
             form, numbers, fanins, order, labels, cuts, places, sheet, gate, roles,
-        );
-        if !is_kept(found) {
-            return found;
-        }
-        t += 1;
+        )?;
     }
-    Judged::Kept
+    Ok(())
 }
 
 // Pass two: tries 25, 26, 27 on each gate, gates rising, by the sheet's lines: their labels and cuts stand in the arrays, their paths in
@@ -113,7 +95,7 @@ pub fn judge_gates(
     places: &[u32],
     sheet: &[u8],
     roles: &mut [u8],
-) -> Judged
+) -> Result<(), Broken>
     requires { JudgeAsked numbers.k.leaves numbers.inputs numbers.nodes fanins.now order.now
         (lined_of form labels.now cuts.now places.now sheet.now) roles.old }
     ensures { GatesJudged numbers.k.leaves numbers.inputs numbers.nodes fanins.now

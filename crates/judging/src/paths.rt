@@ -11,7 +11,7 @@ ghost use Rattle.judging.specs.Paths.{is_marked, goes_on, is_path, are_paths, Ta
 
 use drawing::bytes::number_at;
 use storage::Node;
-use storage::lists::{entry_at, size_at};
+use storage::lists::{PLACES, size_at};
 use storage::roles::{END, TAKEN, TAKEN_END, is_end, is_free};
 
 // The id that stands at a place.
@@ -46,16 +46,8 @@ fn feeds(fanins: &[u16], node: Node, gate: Node) -> bool
     requires id_bound { size_at fanins.now gate.id ≤ 6 }
     ensures { result ≡ is_member node.id (list_at fanins.now gate.id) }
 {
-    let m = size_at(fanins, gate);
-    let mut i: usize = 0;
-    while i < m {
-        let u = entry_at(fanins, gate, i);
-        if u.id == node.id {
-            return true;
-        }
-        i += 1;
-    }
-    false
+    let first = PLACES * (gate.id as usize) + 1;
+    fanins[first..first + size_at(fanins, gate)].contains(&node.id)
 }
 
 // Can the path go on from one node to the next?
@@ -65,10 +57,7 @@ fn follows(fanins: &[u16], node: Node, next: Node, roles: &[u8]) -> bool
     requires id_in_bounds_2 { next.id < length roles.now }
     ensures { result ≡ (is_member node.id (list_at fanins.now next.id) && is_marked (area_in roles.now) next.id) }
 {
-    if !feeds(fanins, node, next) {
-        return false;
-    }
-    is_free(roles, next)
+    feeds(fanins, node, next) && is_free(roles, next)
 }
 
 // Does the path go on from a node to its end, by the `size` ids from a place on?
@@ -88,8 +77,7 @@ fn goes_on(
 {
     let mut last = node;
     let mut place = at;
-    let mut left = size;
-    while 0 < left {
+    for _ in 0..size {
         let next = id_at(s, place, width);
         if !follows(fanins, last, next, roles) {
             return false;
@@ -97,7 +85,6 @@ fn goes_on(
         take(roles, next);
         last = next;
         place += width;
-        left -= 1;
     }
     is_end(roles, last)
 }
@@ -144,15 +131,13 @@ pub fn are_paths(
         (joined (paths_at s.now at width q)) roles.old result roles.new }
 {
     let mut place = at;
-    let mut left = q;
-    while 0 < left {
+    for _ in 0..q {
         let size = number_at(s, place, width) as usize;
         let from = place + width;
         if !is_path(fanins, inputs, s, from, width, size, roles) {
             return false;
         }
         place = from + size * width;
-        left -= 1;
     }
     true
 }

@@ -142,9 +142,5 @@ fn owes(labels: &[u16], gate: Node, p: Label) -> bool
     requires { gate.id < length labels.now }
     ensures { Tells ((label_in labels.now gate.id ≡ suc p.depth) × (1 ≤ p.depth)) result }
 {
-    if p.depth == 0 {
-        return false;
-    }
-    let label = label_of(labels, gate);
-    label.depth as usize == p.depth as usize + 1
+    1 <= p.depth && label_of(labels, gate).depth as usize == p.depth as usize + 1
 }

@@ -1,5 +1,6 @@
 -- Every place that a reply names fits 32 bits: the places in a table's bytes and a sheet's are small, a gate is one of 192 nodes, a sheet of the
 -- mapper's has at most 43,554 bytes, and a depth is at most 191; a text in the grammar has at most 8,192 bytes, and its table at most 4,096.
+use Rattle.std.specs.Prelude.{Ok}
 use Prim.Native.Nat.{ℕ, ◌-◌, ◌≤◌, ◌<◌}
 use native.Mathlib.Omega.{arith}
 use mathlib.Core.Path.{◌≡◌, refl, ap, sym, subst}
@@ -14,7 +15,6 @@ use Rattle.drawing.specs.paper.Reading.{found, table_of, nodes_of}
 use Rattle.drawing.proofs.SoundTables.{table_sound}
 use Rattle.drawing.proofs.Places.{refused_place}
 use Rattle.taking.specs.paper.Taken.{IsTaken}
-use Rattle.sheet.specs.declared.Ruling.TheVariants as ruling
 use Rattle.sheet.specs.paper.Sheet.{Lut, Sheet}
 use Rattle.sheet.specs.paper.Encoding.{narrow, encode}
 use Rattle.sheet.specs.paper.Shape.{reading}
@@ -117,7 +117,7 @@ module _ (s t : List ℕ) (bytes : (i : ℕ) → get_or t i 0 < 256) where
   few : (found s).verdict ≡ Ok tt → nodes_of s ≤ 192
   few whole = (table_sound s whole).head.nodes_most
 
-  broken_low : IsTaken s → (reading (due_in s) t).ruling ≡ ruling.Sound → {Kept : Rule → Type 0} (x : Found) →
+  broken_low : IsTaken s → (reading (due_in s) t).ruling ≡ Ok tt → {Kept : Rule → Type 0} (x : Found) →
       FirstBroken Kept (rules_of (net_of (table_of s)) (sheet_in s t)) x → (r : Rule) → x ≡ Found.broken r → rule_place r ≤ 192
   broken_low d sound {Kept} x first r e =
       let net = net_of (table_of s) in

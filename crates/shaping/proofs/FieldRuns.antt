@@ -1,8 +1,8 @@
 -- Runs of fields, one field at a time: the ruling to come, and what each turn of pass one leaves of it.
+use Rattle.std.specs.Prelude.{Option, None, Some, Result, Ok, Err}
 use Prim.Native.Nat.{ℕ, ◌+◌, ◌-◌, ◌<◌, ◌≤◌}
 use native.Mathlib.Omega.{arith}
-use mathlib.Core.Path.{◌≡◌, refl, ap, sym, ◌∙◌}
-use mathlib.Core.Bool.{true}
+use mathlib.Core.Path.{◌≡◌, refl, ap, sym, subst, ◌∙◌}
 use mathlib.Core.List.{List}
 use borrow.Author.Tests.{lt-ltb, le-ltb, eqb-true, not-false}
 use lib.ListN.{length}
@@ -13,18 +13,14 @@ use Rattle.drawing.specs.Bytes.{SmallAt}
 use Rattle.drawing.proofs.Ids.{from_one}
 use Rattle.sheet.specs.declared.Fault.{Fault}
 use Rattle.sheet.specs.declared.Fault.TheVariants.{Extra}
-use Rattle.sheet.specs.declared.Ruling.{Ruling}
-use Rattle.sheet.specs.declared.Ruling.TheVariants.{Sound, Faulty}
 use Rattle.sheet.specs.paper.Limits.{version_size, depth_place}
 use Rattle.sheet.specs.paper.Sheet.{Line, Lut}
-use Rattle.sheet.specs.paper.Shape.{Due, end_at, count_at, head_ruling, line_at, line_ruling, line_length_wrong, line_range, lut_at}
+use Rattle.sheet.specs.paper.Shape.{Ruling, Due, end_at, count_at, head_ruling, line_at, line_ruling, line_length_wrong, line_range, lut_at}
 use Rattle.sheet.specs.paper.Shape.{lut_ruling, lut_length_wrong, lut_range, leaves_end, lut_cut, Fields, and_field, lines_from}
 use Rattle.sheet.specs.paper.Shape.{luts_from, after_head, after_lines, after_luts, reading}
 use Rattle.shaping.specs.declared.runs.Left.{Left}
-use Rattle.shaping.specs.declared.runs.Run.{Run}
-use Rattle.shaping.specs.declared.runs.Run.TheVariants.{Head, Fields as Fields', Ended}
 use Rattle.shaping.specs.Fields.{head_length_wrong, head_out_of_range}
-use Rattle.shaping.specs.Runs.{then, extra_ruling, left_ruling, run_ruling, turns_left, has_ended, Turned}
+use Rattle.shaping.specs.Runs.{then, extra_ruling, left_ruling, due_ruling, turns_left, GoesOn, Turned, FieldJudged}
 use Rattle.shaping.proofs.Rulings.{Kept, field_kept, field_inside}
 use Rattle.shaping.proofs.Values.{lut_parts}
 
@@ -33,38 +29,38 @@ left_of lines luts least = record { lines = lines; luts = luts; least = least }
 
 -- what a sound field keeps
 module _ (due : Due) (s : List ℕ) where
-  pub head_kept : head_ruling due s ≡ Sound → Kept s 0 due.form.head (head_length_wrong due s) (head_out_of_range due s)
+  pub head_kept : head_ruling due s ≡ Ok tt → Kept s 0 due.form.head (head_length_wrong due s) (head_out_of_range due s)
   unfolding head_ruling
   head_kept sound = field_kept s 0 due.form.head sound
 
-  pub line_kept : (at : ℕ) → line_ruling due s at ≡ Sound → Kept s at due.form.line (line_length_wrong due s at) (line_range due (line_at due s at))
+  pub line_kept : (at : ℕ) → line_ruling due s at ≡ Ok tt → Kept s at due.form.line (line_length_wrong due s at) (line_range due (line_at due s at))
   unfolding line_ruling
   line_kept at sound = field_kept s at due.form.line sound
 
-  pub lut_kept : (least at : ℕ) → lut_ruling due s least at ≡ Sound →
+  pub lut_kept : (least at : ℕ) → lut_ruling due s least at ≡ Ok tt →
       Kept s at due.form.lut (lut_length_wrong due s at) (lut_range due least (lut_at due s at))
   unfolding lut_ruling
   lut_kept least at sound = field_kept s at due.form.lut sound
 
-  pub head_size : head_ruling due s ≡ Sound → length_at s 0 ≡ version_size + due.form.width + due.form.width
+  pub head_size : head_ruling due s ≡ Ok tt → length_at s 0 ≡ version_size + due.form.width + due.form.width
   head_size sound =
       let w = due.form.width in
       eqb-true (length_at s 0) (version_size + w + w) (not-false (eqb (length_at s 0) (version_size + w + w)) (head_kept sound).right)
 
-  pub head_inside : head_ruling due s ≡ Sound → depth_place + due.form.width + due.form.width ≤ length s
+  pub head_inside : head_ruling due s ≡ Ok tt → depth_place + due.form.width + due.form.width ≤ length s
   head_inside sound = omega (arith, head_size sound, field_inside s 0 due.form.head (head_kept sound))
 
-  pub head_end : head_ruling due s ≡ Sound → end_at s 0 ≤ length s
+  pub head_end : head_ruling due s ≡ Ok tt → end_at s 0 ≤ length s
   head_end sound = field_inside s 0 due.form.head (head_kept sound)
 
-  pub line_end : (at : ℕ) → line_ruling due s at ≡ Sound → end_at s at ≤ length s
+  pub line_end : (at : ℕ) → line_ruling due s at ≡ Ok tt → end_at s at ≤ length s
   line_end at sound = field_inside s at due.form.line (line_kept at sound)
 
-  pub lut_end : (least at : ℕ) → lut_ruling due s least at ≡ Sound → end_at s at ≤ length s
+  pub lut_end : (least at : ℕ) → lut_ruling due s least at ≡ Ok tt → end_at s at ≤ length s
   lut_end least at sound = field_inside s at due.form.lut (lut_kept least at sound)
 
   -- the whole LUT, from the root on
-  pub lut_whole : (least at : ℕ) → lut_ruling due s least at ≡ Sound → leaves_end due s (lut_cut due s at) + rows_size ≤ length s
+  pub lut_whole : (least at : ℕ) → lut_ruling due s least at ≡ Ok tt → leaves_end due s (lut_cut due s at) + rows_size ≤ length s
   lut_whole least at sound = omega (arith, lut_parts due s at (lut_kept least at sound).right, lut_end least at sound)
 
   -- lines
@@ -100,11 +96,11 @@ module _ (due : Due) (s : List ℕ) where
     abbrev behind : Fields Line → Ruling
     behind ls = then ls.ruling (after_last (luts_from due s luts least ls.next))
 
-    left_line_stop : 0 < lines → {f : Fault} → line_ruling due s at ≡ Faulty f → left_ruling due s lines luts least at ≡ Faulty f
+    left_line_stop : 0 < lines → {f : Fault} → line_ruling due s at ≡ Err f → left_ruling due s lines luts least at ≡ Err f
     unfolding left_ruling
     left_line_stop some e = ap behind (lines_ruled lines at some e)
 
-    left_line_next : 0 < lines → line_ruling due s at ≡ Sound → left_ruling due s lines luts least at ≡ left_ruling due s (lines - 1) luts least (end_at s at)
+    left_line_next : 0 < lines → line_ruling due s at ≡ Ok tt → left_ruling due s lines luts least at ≡ left_ruling due s (lines - 1) luts least (end_at s at)
     unfolding left_ruling
     left_line_next some e = ap behind (lines_ruled lines at some e)
 
@@ -113,14 +109,14 @@ module _ (due : Due) (s : List ℕ) where
       unfolding left_ruling lines_from
       left_luts = let z : lines ≡ 0 = omega (arith, none) in ap (λ (n : ℕ). behind (lines_from due s n at)) z
 
-      left_lut_stop : 0 < luts → {f : Fault} → lut_ruling due s least at ≡ Faulty f → left_ruling due s lines luts least at ≡ Faulty f
+      left_lut_stop : 0 < luts → {f : Fault} → lut_ruling due s least at ≡ Err f → left_ruling due s lines luts least at ≡ Err f
       left_lut_stop some e = left_luts ∙ ap after_last (luts_ruled luts least at some e)
 
       left_extra : luts ≤ 0 → left_ruling due s lines luts least at ≡ extra_ruling s at
       unfolding luts_from
       left_extra few = let z : luts ≡ 0 = omega (arith, few) in left_luts ∙ ap (λ (n : ℕ). after_last (luts_from due s n least at)) z
 
-  left_lut_next : (lines luts least at : ℕ) → lines ≤ 0 → 0 < luts → lut_ruling due s least at ≡ Sound →
+  left_lut_next : (lines luts least at : ℕ) → lines ≤ 0 → 0 < luts → lut_ruling due s least at ≡ Ok tt →
       left_ruling due s lines luts least at ≡ left_ruling due s lines (luts - 1) ((lut_at due s at).root + 1) (end_at s at)
   left_lut_next lines luts least at none some e =
       left_luts lines luts least at none
@@ -129,20 +125,20 @@ module _ (due : Due) (s : List ℕ) where
 
   -- the ruling on a sheet is that on its head, then on what follows
   after_luts_lem : (r : Ruling) (lines : Fields Line) (luts : Fields Lut) → (after_luts due s r lines luts).ruling ≡ then r (extra_ruling s luts.next)
-  after_luts_lem Sound lines luts = refl
-  after_luts_lem (Faulty f) lines luts = refl
+  after_luts_lem (Ok tt) lines luts = refl
+  after_luts_lem (Err f) lines luts = refl
 
   after_lines_lem : (r : Ruling) (lines : Fields Line) →
       (after_lines due s r lines).ruling ≡ then r (after_last (luts_from due s (count_at due s) due.inputs lines.next))
-  after_lines_lem Sound lines =
+  after_lines_lem (Ok tt) lines =
       after_luts_lem (luts_from due s (count_at due s) due.inputs lines.next).ruling lines (luts_from due s (count_at due s) due.inputs lines.next)
-  after_lines_lem (Faulty f) lines = refl
+  after_lines_lem (Err f) lines = refl
 
   after_head_lem : (r : Ruling) → (after_head due s r).ruling ≡ then r (left_ruling due s (due.nodes - due.inputs) (count_at due s) due.inputs (end_at s 0))
   unfolding left_ruling
-  after_head_lem Sound =
+  after_head_lem (Ok tt) =
       after_lines_lem (lines_from due s (due.nodes - due.inputs) (end_at s 0)).ruling (lines_from due s (due.nodes - due.inputs) (end_at s 0))
-  after_head_lem (Faulty f) = refl
+  after_head_lem (Err f) = refl
 
   -- the head's ruling, and what follows it
   head_ruled : {r : Ruling} → head_ruling due s ≡ r →
@@ -152,64 +148,73 @@ module _ (due : Due) (s : List ℕ) where
       after_head_lem (head_ruling due s)
       ∙ ap (λ (r : Ruling). then r (left_ruling due s (due.nodes - due.inputs) (count_at due s) due.inputs (end_at s 0))) e
 
--- a turn that ends pass one, and a turn after which more fields are due
-module _ (due : Due) (s : List ℕ) (at : ℕ) where
-  turn_ended : (run : Run) {x : Ruling} → run_ruling due s at run ≡ x → Turned due s at run (Ended x)
-  turn_ended run e =
+-- an answer is no other answer
+err_not_ok : {A : Type 0} {f : Fault} {a : A} → Err f ≡ Ok a → ⊥
+err_not_ok e = let z : ◌≡◌ {A = ℕ} 0 1 = cc in omega arith
+
+none_not_some : {left : Left} → ◌≡◌ {A = Result (Option Left) Fault} (Ok None) (Ok (Some left)) → ⊥
+none_not_some e = let z : ◌≡◌ {A = ℕ} 0 1 = cc in omega arith
+
+ok_same : {left next : Left} → ◌≡◌ {A = Result Left Fault} (Ok left) (Ok next) → left ≡ next
+ok_same e = cc
+
+-- a turn that finds a fault, and one behind which more is due
+module _ (due : Due) (s : List ℕ) (at : ℕ) (left : Left) where
+  turn_ended : {f : Fault} → due_ruling due s at left ≡ Err f → Turned due s at left (Err f)
+  turn_ended e =
       record {
-        same = e;
-        stands = λ on. absurd (let z : ◌≡◌ {A = ℕ} 0 1 = cc in omega arith);
-        less = λ on. absurd (let z : ◌≡◌ {A = ℕ} 0 1 = cc in omega arith);
+        goes_on = record { same = e; inside = λ o. absurd (err_not_ok o) };
+        less = λ o. absurd (err_not_ok o);
       }
 
-  pub turn_over : {run : Run} {x : Ruling} → run ≡ Ended x → Turned due s at run (Ended x)
-  turn_over {run} e = turn_ended run (ap (run_ruling due s at) e)
-
-  turn_on : (run : Run) (left : Left) → run_ruling due s at run ≡ run_ruling due s (end_at s at) (Fields' left) →
-      end_at s at ≤ length s → turns_left due s (Fields' left) < turns_left due s run → Turned due s at run (Fields' left)
-  turn_on run left e inside fewer =
+  turn_on : (next : Left) → due_ruling due s at left ≡ due_ruling due s (end_at s at) next →
+      end_at s at ≤ length s → turns_left next < turns_left left → Turned due s at left (Ok next)
+  turn_on next e inside fewer =
       record {
-        same = e;
-        stands = λ on. record { inside = inside; front = λ z. absurd (let y : ◌≡◌ {A = ℕ} 0 1 = cc in omega arith) };
-        less = λ on. fewer;
+        goes_on = record { same = e; inside = λ o. inside };
+        less = λ {next = n} o. subst (λ (l : Left). turns_left l < turns_left left) (ok_same o) fewer;
       }
+
+  field_ended : {f : Fault} → due_ruling due s at left ≡ Err f → FieldJudged due s at left (Err f)
+  field_ended e = record { same = e; inside = λ o. absurd (err_not_ok o); less = λ o. absurd (err_not_ok o) }
 
 module _ (due : Due) (s : List ℕ) where
   -- the head's turn
   module _ {r : Ruling} (ruled : r ≡ head_ruling due s) where
-    pub head_stop : {f : Fault} → r ≡ Faulty f → Turned due s 0 Head (Ended (Faulty f))
-    head_stop e = turn_ended due s 0 Head (head_ruled due s (sym ruled ∙ e))
+    pub head_stop : {f : Fault} → r ≡ Err f → GoesOn due s 0 (reading due s).ruling (Err f)
+    head_stop e = record { same = head_ruled due s (sym ruled ∙ e); inside = λ o. absurd (err_not_ok o) }
 
-    pub head_next : r ≡ Sound → {luts : ℕ} → SmallAt s (depth_place + due.form.width) due.form.width luts →
-        Turned due s 0 Head (Fields' (left_of (due.nodes - due.inputs) luts due.inputs))
+    pub head_next : r ≡ Ok tt → {luts : ℕ} → SmallAt s (depth_place + due.form.width) due.form.width luts →
+        GoesOn due s 0 (reading due s).ruling (Ok (left_of (due.nodes - due.inputs) luts due.inputs))
     head_next e {luts} counted =
-        turn_on due s 0 Head (left_of (due.nodes - due.inputs) luts due.inputs)
-        (head_ruled due s (sym ruled ∙ e)
-        ∙ ap (λ (n : ℕ). left_ruling due s (due.nodes - due.inputs) n due.inputs (end_at s 0)) (sym counted.number))
-        (head_end due s (sym ruled ∙ e))
-        (omega (arith, counted.number))
+        record {
+          same =
+              head_ruled due s (sym ruled ∙ e)
+              ∙ ap (λ (n : ℕ). left_ruling due s (due.nodes - due.inputs) n due.inputs (end_at s 0)) (sym counted.number);
+          inside = λ o. head_end due s (sym ruled ∙ e);
+        }
 
   -- a line's turn
   module _ (at : ℕ) (left : Left) (some : 0 < left.lines) {r : Ruling} (ruled : r ≡ line_ruling due s at) where
-    pub line_stop : {f : Fault} → r ≡ Faulty f → Turned due s at (Fields' left) (Ended (Faulty f))
-    line_stop e = turn_ended due s at (Fields' left) (left_line_stop due s left.lines left.luts left.least at some (sym ruled ∙ e))
+    pub line_stop : {f : Fault} → r ≡ Err f → Turned due s at left (Err f)
+    line_stop e = turn_ended due s at left (left_line_stop due s left.lines left.luts left.least at some (sym ruled ∙ e))
 
-    pub line_next : r ≡ Sound → Turned due s at (Fields' left) (Fields' (left_of (left.lines - 1) left.luts left.least))
+    pub line_next : r ≡ Ok tt → Turned due s at left (Ok (left_of (left.lines - 1) left.luts left.least))
     line_next e =
-        turn_on due s at (Fields' left) (left_of (left.lines - 1) left.luts left.least)
+        turn_on due s at left (left_of (left.lines - 1) left.luts left.least)
         (left_line_next due s left.lines left.luts left.least at some (sym ruled ∙ e))
         (line_end due s at (sym ruled ∙ e))
         (omega (arith, some))
 
   -- a LUT's turn
   module _ (at : ℕ) (left : Left) (none : left.lines ≤ 0) (some : 0 < left.luts) {r : Ruling} (ruled : r ≡ lut_ruling due s left.least at) where
-    pub lut_stop : {f : Fault} → r ≡ Faulty f → Turned due s at (Fields' left) (Ended (Faulty f))
-    lut_stop e = turn_ended due s at (Fields' left) (left_lut_stop due s left.lines left.luts left.least at none some (sym ruled ∙ e))
+    pub lut_stop : {f : Fault} → r ≡ Err f → Turned due s at left (Err f)
+    lut_stop e = turn_ended due s at left (left_lut_stop due s left.lines left.luts left.least at none some (sym ruled ∙ e))
 
-    pub lut_next : r ≡ Sound → {root : ℕ} → SmallAt s (value_at at) due.form.width root →
-        Turned due s at (Fields' left) (Fields' (left_of left.lines (left.luts - 1) (root + 1)))
+    pub lut_next : r ≡ Ok tt → {root : ℕ} → SmallAt s (value_at at) due.form.width root →
+        Turned due s at left (Ok (left_of left.lines (left.luts - 1) (root + 1)))
     lut_next e {root} rooted =
-        turn_on due s at (Fields' left) (left_of left.lines (left.luts - 1) (root + 1))
+        turn_on due s at left (left_of left.lines (left.luts - 1) (root + 1))
         (left_lut_next due s left.lines left.luts left.least at none some (sym ruled ∙ e)
         ∙ ap (λ (n : ℕ). left_ruling due s left.lines (left.luts - 1) (n + 1) (end_at s at)) (sym rooted.number))
         (lut_end due s left.least at (sym ruled ∙ e))
@@ -217,28 +222,14 @@ module _ (due : Due) (s : List ℕ) where
 
   -- the turn behind the last LUT
   module _ (at : ℕ) (left : Left) (none : left.lines ≤ 0) (last : left.luts ≤ 0) where
-    pub extra_stop : at < length s → Turned due s at (Fields' left) (Ended (Faulty (Extra at)))
+    pub extra_stop : at < length s → FieldJudged due s at left (Err (Extra at))
     extra_stop more =
-        turn_ended due s at (Fields' left)
-        (left_extra due s left.lines left.luts left.least at none last ∙ rw (lt-ltb at (length s) more))
+        field_ended due s at left (left_extra due s left.lines left.luts left.least at none last ∙ rw (lt-ltb at (length s) more))
 
-    pub extra_none : length s ≤ at → Turned due s at (Fields' left) (Ended Sound)
+    pub extra_none : length s ≤ at → FieldJudged due s at left (Ok None)
     extra_none done =
-        turn_ended due s at (Fields' left)
-        (left_extra due s left.lines left.luts left.least at none last ∙ rw (le-ltb at (length s) done))
-
-  -- where pass one has ended, its answer is the ruling to come
-  pub ended_with : (at : ℕ) (run : Run) {x : Ruling} → has_ended run ≡ true → run_ruling due s at run ≡ x → run ≡ Ended x
-  ended_with at Head over e = absurd (let z : ◌≡◌ {A = ℕ} 0 1 = cc in omega arith)
-  ended_with at (Fields' left) over e = absurd (let z : ◌≡◌ {A = ℕ} 0 1 = cc in omega arith)
-  ended_with at (Ended ruling) over e = ap Ended e
-
--- a run that has ended has ended with one ruling, and is no other run
-pub ended_same : {x y : Ruling} → Ended x ≡ Ended y → x ≡ y
-ended_same e = cc
-
-pub head_goes_on : {x : Ruling} → Head ≡ Ended x → ⊥
-head_goes_on e = let z : ◌≡◌ {A = ℕ} 0 1 = cc in omega arith
-
-pub fields_go_on : {left : Left} {x : Ruling} → Fields' left ≡ Ended x → ⊥
-fields_go_on e = let z : ◌≡◌ {A = ℕ} 0 1 = cc in omega arith
+        record {
+          same = left_extra due s left.lines left.luts left.least at none last ∙ rw (le-ltb at (length s) done);
+          inside = λ o. absurd (none_not_some o);
+          less = λ o. absurd (none_not_some o);
+        }

@@ -110,10 +110,6 @@ module _ {inputs : ℕ} {s : List ℕ} {lines : List Line} where
         places = entry_more v place least room.places one.places put.places there;
       }
 
-  pub lines_to : {before after : LineArrays} {low high high' : ℕ} → high ≡ high' → LinesFilled inputs s lines before low high after →
-      LinesFilled inputs s lines before low high' after
-  lines_to e one = rw (← e) one
-
   -- the arrays stay as long as they were
   pub lines_room : {nodes low high : ℕ} {before after : LineArrays} (v : ℕ) → v ≤ nodes → LineRoom nodes before →
       LinesFilled inputs s lines before low high after → LineRoom v after
@@ -160,9 +156,6 @@ module _ {luts : List Lut} where
         cuts = sevens_more {low = 0} (leaves_listed luts) v (leaves_listed luts v) (omega arith) one.cuts put.cuts refl;
         tables = entry_more v (table_listed luts v) (omega arith) room.tables one.tables put.tables refl;
       }
-
-  pub luts_to : {before after : LutArrays} {high high' : ℕ} → high ≡ high' → LutsFilled luts before high after → LutsFilled luts before high' after
-  luts_to e one = rw (← e) one
 
   pub luts_room : {nodes high : ℕ} {before after : LutArrays} (v : ℕ) → v ≤ nodes → LutRoom nodes before → LutsFilled luts before high after →
       LutRoom v after

@@ -1,4 +1,5 @@
 -- What is found in a sheet of sound shape: each line at its place, and the LUTs from any place on.
+use Rattle.std.specs.Prelude.{Ok, Err}
 use Prim.Native.Nat.{ℕ, zero, suc, ◌+◌, ◌-◌, ◌^◌, ◌<◌, ◌≤◌}
 use native.Mathlib.Omega.{arith}
 use mathlib.Core.Path.{◌≡◌, refl, ap, sym, ◌∙◌}
@@ -10,37 +11,36 @@ use lib.Dec.{ltb, leb}
 use Rattle.drawing.specs.paper.Bytes.{number_at, value_at}
 use Rattle.drawing.specs.Bytes.{Narrow}
 use Rattle.sheet.specs.declared.Fault.TheVariants.{Extra}
-use Rattle.sheet.specs.declared.Ruling.{Ruling}
-use Rattle.sheet.specs.declared.Ruling.TheVariants.{Sound, Faulty}
+use Rattle.sheet.specs.paper.Shape.{Ruling}
 use Rattle.sheet.specs.paper.Sheet.{Line, Lut, Sheet, no_line}
 use Rattle.sheet.specs.paper.Shape.{Due, end_at, depth_at, count_at, head_ruling, line_at, line_ruling, lut_at, lut_ruling}
 use Rattle.sheet.specs.paper.Shape.{leaves_range, Fields, and_field, lines_from, luts_from, after_head, after_lines, after_luts}
 use Rattle.sheet.specs.paper.Shape.{reading}
 use Rattle.sheet.specs.paper.Rules.{line_of_node, is_listed, leaves_listed, table_listed}
 use Rattle.shaping.specs.Loading.{start_of, place_of, LineArrays, LineRoom, LinePut, LinesFilled, none_listed, lut_listed, listed_at, LutArrays, LutsFilled}
-use Rattle.shaping.specs.Turns.{LineReady, LinesLoaded, next_root, LutsLeft}
+use Rattle.shaping.specs.Turns.{LineReady, next_root, LutsLeft}
 use Rattle.shaping.proofs.Rulings.{not_sound}
 use Rattle.shaping.proofs.Values.{or_none, line_parts}
 use Rattle.shaping.proofs.FieldRuns.{luts_step, line_kept, line_end, lut_kept, lut_whole}
-use Rattle.shaping.proofs.Filling.{lines_begin, line_room_lem, lines_put, lines_to}
+use Rattle.shaping.proofs.Filling.{lines_begin, line_room_lem, lines_put}
 
 -- a sound run's first field is sound, and so is the rest
 module _ {A : Type 0} where
-  pub first_sound : (r : Ruling) (a : A) (at : ℕ) (rest : Fields A) → (and_field r a at rest).ruling ≡ Sound → r ≡ Sound
-  first_sound Sound a at rest e = refl
-  first_sound (Faulty f) a at rest e = absurd (not_sound e)
+  pub first_sound : (r : Ruling) (a : A) (at : ℕ) (rest : Fields A) → (and_field r a at rest).ruling ≡ Ok tt → r ≡ Ok tt
+  first_sound (Ok tt) a at rest e = refl
+  first_sound (Err f) a at rest e = absurd (not_sound e)
 
-  pub rest_sound : (r : Ruling) (a : A) (at : ℕ) (rest : Fields A) → (and_field r a at rest).ruling ≡ Sound → rest.ruling ≡ Sound
-  rest_sound Sound a at rest e = e
-  rest_sound (Faulty f) a at rest e = absurd (not_sound e)
+  pub rest_sound : (r : Ruling) (a : A) (at : ℕ) (rest : Fields A) → (and_field r a at rest).ruling ≡ Ok tt → rest.ruling ≡ Ok tt
+  rest_sound (Ok tt) a at rest e = e
+  rest_sound (Err f) a at rest e = absurd (not_sound e)
 
-  pub all_read : (r : Ruling) (a : A) (at : ℕ) (rest : Fields A) → (and_field r a at rest).ruling ≡ Sound → (and_field r a at rest).read ≡ a ∷ rest.read
-  all_read Sound a at rest e = refl
-  all_read (Faulty f) a at rest e = absurd (not_sound e)
+  pub all_read : (r : Ruling) (a : A) (at : ℕ) (rest : Fields A) → (and_field r a at rest).ruling ≡ Ok tt → (and_field r a at rest).read ≡ a ∷ rest.read
+  all_read (Ok tt) a at rest e = refl
+  all_read (Err f) a at rest e = absurd (not_sound e)
 
-  pub all_next : (r : Ruling) (a : A) (at : ℕ) (rest : Fields A) → (and_field r a at rest).ruling ≡ Sound → (and_field r a at rest).next ≡ rest.next
-  all_next Sound a at rest e = refl
-  all_next (Faulty f) a at rest e = absurd (not_sound e)
+  pub all_next : (r : Ruling) (a : A) (at : ℕ) (rest : Fields A) → (and_field r a at rest).ruling ≡ Ok tt → (and_field r a at rest).next ≡ rest.next
+  all_next (Ok tt) a at rest e = refl
+  all_next (Err f) a at rest e = absurd (not_sound e)
 
 module _ (s : List ℕ) where
   pub start_more : (at i : ℕ) → start_of s at (suc i) ≡ end_at s (start_of s at i)
@@ -57,41 +57,41 @@ module _ (due : Due) (s : List ℕ) where
 
   -- A sheet of sound shape: its parts are sound, and the sheet is what they read.
   pub record Whole : Type 0 where
-    pub head : head_ruling due s ≡ Sound
-    pub lines : the_lines.ruling ≡ Sound
-    pub luts : the_luts.ruling ≡ Sound
+    pub head : head_ruling due s ≡ Ok tt
+    pub lines : the_lines.ruling ≡ Ok tt
+    pub luts : the_luts.ruling ≡ Ok tt
     pub ended : length s ≤ the_luts.next
     pub sheet : (reading due s).sheet ≡ record { depth = depth_at due s; lines = the_lines.read; luts = the_luts.read }
 
-  luts_whole : (r : Ruling) → (after_luts due s r the_lines the_luts).ruling ≡ Sound → r ≡ Sound
-  luts_whole Sound e = refl
-  luts_whole (Faulty f) e = absurd (not_sound e)
+  luts_whole : (r : Ruling) → (after_luts due s r the_lines the_luts).ruling ≡ Ok tt → r ≡ Ok tt
+  luts_whole (Ok tt) e = refl
+  luts_whole (Err f) e = absurd (not_sound e)
 
-  no_extra : (more : Bool) → cond more (Faulty (Extra the_luts.next)) Sound ≡ Sound → more ≡ false
+  no_extra : (more : Bool) → ◌≡◌ {A = Ruling} (cond more (Err (Extra the_luts.next)) (Ok tt)) (Ok tt) → more ≡ false
   no_extra true e = absurd (not_sound e)
   no_extra false e = refl
 
-  luts_ended : (r : Ruling) → (after_luts due s r the_lines the_luts).ruling ≡ Sound → length s ≤ the_luts.next
-  luts_ended Sound e = ltb-false the_luts.next (length s) (no_extra (ltb the_luts.next (length s)) e)
-  luts_ended (Faulty f) e = absurd (not_sound e)
+  luts_ended : (r : Ruling) → (after_luts due s r the_lines the_luts).ruling ≡ Ok tt → length s ≤ the_luts.next
+  luts_ended (Ok tt) e = ltb-false the_luts.next (length s) (no_extra (ltb the_luts.next (length s)) e)
+  luts_ended (Err f) e = absurd (not_sound e)
 
   luts_sheet : (r : Ruling) → (after_luts due s r the_lines the_luts).sheet ≡ record { depth = depth_at due s; lines = the_lines.read; luts = the_luts.read }
-  luts_sheet Sound = refl
-  luts_sheet (Faulty f) = refl
+  luts_sheet (Ok tt) = refl
+  luts_sheet (Err f) = refl
 
-  lines_whole : (r : Ruling) → (after_lines due s r the_lines).ruling ≡ Sound →
-      (r ≡ Sound) × (the_luts.ruling ≡ Sound) × (length s ≤ the_luts.next)
+  lines_whole : (r : Ruling) → (after_lines due s r the_lines).ruling ≡ Ok tt →
+      (r ≡ Ok tt) × (the_luts.ruling ≡ Ok tt) × (length s ≤ the_luts.next)
       × ((after_lines due s r the_lines).sheet ≡ record { depth = depth_at due s; lines = the_lines.read; luts = the_luts.read })
-  lines_whole Sound e = (refl, luts_whole the_luts.ruling e, luts_ended the_luts.ruling e, luts_sheet the_luts.ruling)
-  lines_whole (Faulty f) e = absurd (not_sound e)
+  lines_whole (Ok tt) e = (refl, luts_whole the_luts.ruling e, luts_ended the_luts.ruling e, luts_sheet the_luts.ruling)
+  lines_whole (Err f) e = absurd (not_sound e)
 
-  head_whole : (r : Ruling) → (after_head due s r).ruling ≡ Sound →
-      (r ≡ Sound) × (the_lines.ruling ≡ Sound) × (the_luts.ruling ≡ Sound) × (length s ≤ the_luts.next)
+  head_whole : (r : Ruling) → (after_head due s r).ruling ≡ Ok tt →
+      (r ≡ Ok tt) × (the_lines.ruling ≡ Ok tt) × (the_luts.ruling ≡ Ok tt) × (length s ≤ the_luts.next)
       × ((after_head due s r).sheet ≡ record { depth = depth_at due s; lines = the_lines.read; luts = the_luts.read })
-  head_whole Sound e = let more = lines_whole the_lines.ruling e in (refl, more.0, more.1, more.2, more.3)
-  head_whole (Faulty f) e = absurd (not_sound e)
+  head_whole (Ok tt) e = let more = lines_whole the_lines.ruling e in (refl, more.0, more.1, more.2, more.3)
+  head_whole (Err f) e = absurd (not_sound e)
 
-  pub whole : (reading due s).ruling ≡ Sound → Whole
+  pub whole : (reading due s).ruling ≡ Ok tt → Whole
   unfolding reading
   whole e =
       let all = head_whole (head_ruling due s) e in
@@ -99,10 +99,10 @@ module _ (due : Due) (s : List ℕ) where
 
   -- each line of a sound run stands at its place
   pub record LineFound (lines : List Line) (i at : ℕ) : Type 0 where
-    pub ruled : line_ruling due s at ≡ Sound
+    pub ruled : line_ruling due s at ≡ Ok tt
     pub read : get_or lines i no_line ≡ line_at due s at
 
-  pub line_found : (gates at i : ℕ) → (lines_from due s gates at).ruling ≡ Sound → i < gates → LineFound (lines_from due s gates at).read i (start_of s at i)
+  pub line_found : (gates at i : ℕ) → (lines_from due s gates at).ruling ≡ Ok tt → i < gates → LineFound (lines_from due s gates at).read i (start_of s at i)
   unfolding lines_from start_of
   line_found zero at i sound inside = absurd (omega (arith, inside))
   line_found (suc gates) at zero sound inside =
@@ -119,7 +119,7 @@ module _ (due : Due) (s : List ℕ) where
         read = ap (λ (l : List Line). get_or l (suc i) no_line) (all_read (line_ruling due s at) (line_at due s at) at rest sound) ∙ later.read;
       }
 
-  pub lines_end : (gates at : ℕ) → (lines_from due s gates at).ruling ≡ Sound → (lines_from due s gates at).next ≡ start_of s at gates
+  pub lines_end : (gates at : ℕ) → (lines_from due s gates at).ruling ≡ Ok tt → (lines_from due s gates at).next ≡ start_of s at gates
   unfolding lines_from start_of
   lines_end zero at sound = refl
   lines_end (suc gates) at sound =
@@ -142,7 +142,7 @@ module _ (due : Due) (s : List ℕ) where
 
   -- the sheet's line of a gate
   pub record GateFound (v at : ℕ) : Type 0 where
-    pub ruled : line_ruling due s at ≡ Sound
+    pub ruled : line_ruling due s at ≡ Ok tt
     pub line : line_at due s at ≡ line_of_node due.inputs (reading due s).sheet.lines v
 
   pub gate_found : Whole → (v : ℕ) → due.inputs ≤ v → v < due.nodes → GateFound v (start_of s (end_at s 0) (v - due.inputs))
@@ -159,18 +159,18 @@ module _ (due : Due) (s : List ℕ) where
       }
 
   -- LUTs
-  module _ (left least at : ℕ) (some : 0 < left) (sound : (luts_from due s left least at).ruling ≡ Sound) where
+  module _ (left least at : ℕ) (some : 0 < left) (sound : (luts_from due s left least at).ruling ≡ Ok tt) where
     behind : Fields Lut
     behind = luts_from due s (left - 1) ((lut_at due s at).root + 1) (end_at s at)
 
-    as_step : (and_field (lut_ruling due s least at) (lut_at due s at) at behind).ruling ≡ Sound
+    as_step : (and_field (lut_ruling due s least at) (lut_at due s at) at behind).ruling ≡ Ok tt
     unfolding behind
     as_step = ap (λ (l : Fields Lut). l.ruling) (sym (luts_step due s left least at some)) ∙ sound
 
-    pub lut_ruled : lut_ruling due s least at ≡ Sound
+    pub lut_ruled : lut_ruling due s least at ≡ Ok tt
     lut_ruled = first_sound (lut_ruling due s least at) (lut_at due s at) at behind as_step
 
-    pub luts_behind : (luts_from due s (left - 1) ((lut_at due s at).root + 1) (end_at s at)).ruling ≡ Sound
+    pub luts_behind : (luts_from due s (left - 1) ((lut_at due s at).root + 1) (end_at s at)).ruling ≡ Ok tt
     unfolding behind
     luts_behind = rest_sound (lut_ruling due s least at) (lut_at due s at) at behind as_step
 
@@ -208,7 +208,7 @@ listed_past lut luts u e = rw (ne_eqb lut.root u e)
 
 module _ (due : Due) (s : List ℕ) where
   -- nothing is listed below the next root
-  pub listed_none : (left least at u : ℕ) → (luts_from due s left least at).ruling ≡ Sound → (0 < left → u < (lut_at due s at).root) →
+  pub listed_none : (left least at u : ℕ) → (luts_from due s left least at).ruling ≡ Ok tt → (0 < left → u < (lut_at due s at).root) →
       listed_at (luts_from due s left least at).read u ≡ none_listed
   unfolding luts_from is_listed leaves_listed table_listed
   listed_none zero least at u sound low = refl
@@ -261,7 +261,7 @@ module _ (due : Due) (s : List ℕ) where
       rooted =
           sym (next ∙ ap (λ (b : Bool). cond b due.nodes (number_at s (value_at at) due.form.width)) (ne_eqb left 0 (λ e. omega (arith, e, some_left)))) ∙ here
 
-      pub ruled_here : lut_ruling due s l.least at ≡ Sound
+      pub ruled_here : lut_ruling due s l.least at ≡ Ok tt
       ruled_here = lut_ruled due s left l.least at some_left l.sound
 
       pub lut_here : lut_listed (lut_at due s at) ≡ listed_at luts v
@@ -365,8 +365,3 @@ module _ {due : Due} {s : List ℕ} where
   lines_loading {a} begun =
       let none : 0 ≡ 0 - due.inputs = omega arith in
       record { most = omega arith; reached = begun ∙ ap (start_of s (end_at s 0)) none; filled = lines_begin 0 a }
-
-  pub lines_loaded : {before after : LineArrays} {v at : ℕ} → LinesLoading due s before after v at → due.nodes ≤ v → LinesLoaded due s before at after
-  lines_loaded {v = v} l done =
-      let all : v ≡ due.nodes = omega (arith, l.most, done) in
-      record { end = l.reached ∙ ap (λ (n : ℕ). start_of s (end_at s 0) (n - due.inputs)) all; filled = lines_to all l.filled }

@@ -1,4 +1,5 @@
 -- A loaded sheet is held as the later passes ask, and there is one way to load it.
+use Rattle.std.specs.Prelude.{Ok}
 use Prim.Native.Nat.{ℕ, zero, suc, ◌+◌, ◌*◌, ◌-◌, ◌/◌, ◌%◌, ◌<◌, ◌≤◌}
 use native.Mathlib.Decide.{dec_lt}
 use native.Mathlib.Omega.{arith}
@@ -13,7 +14,6 @@ use Rattle.theory.specs.paper.Evidence.{joined}
 use Rattle.storage.specs.Lists.{size_at, list_at}
 use Rattle.storage.proofs.InLists.{list_size, list_entry}
 use Rattle.drawing.specs.paper.Bytes.{some_from}
-use Rattle.sheet.specs.declared.Ruling.TheVariants.{Sound}
 use Rattle.sheet.specs.paper.Sheet.{Line, Lut, Sheet}
 use Rattle.sheet.specs.paper.Shape.{Due, end_at, rising, some_empty, leaves_range, line_range, lut_range, line_at, lut_at, line_ruling, lut_ruling, count_at, luts_from, reading}
 use Rattle.sheet.specs.paper.Rules.{line_of_node, leaves_listed}
@@ -72,7 +72,7 @@ one_of true xs ys m x y = x
 one_of false xs ys m x y = y
 
 module _ (due : Due) (s : List ℕ) where
-  listed_few : (left least at v : ℕ) → (luts_from due s left least at).ruling ≡ Sound → length (leaves_listed (luts_from due s left least at).read v) ≤ due.k
+  listed_few : (left least at v : ℕ) → (luts_from due s left least at).ruling ≡ Ok tt → length (leaves_listed (luts_from due s left least at).read v) ≤ due.k
   unfolding luts_from leaves_listed
   listed_few zero least at v sound = omega arith
   listed_few (suc left) least at v sound =

@@ -1,6 +1,6 @@
 -- The ids of a cut: one of them, whether they rise, and the range rules of leaves.
 use Prim.Native.Nat.{ℕ, zero, suc, ◌+◌, ◌*◌, ◌-◌, ◌<◌, ◌≤◌}
-use native.Mathlib.Nat.{zero-mul, suc-mul, mul-le-mul_right}
+use native.Mathlib.Nat.{zero-mul, one-mul, suc-mul, add-mul, mul-le-mul_right}
 use native.Mathlib.Omega.{arith}
 use mathlib.Core.Path.{◌≡◌, ap, sym, ◌∙◌}
 use mathlib.Core.Bool.{Bool, true, false, not}
@@ -30,11 +30,6 @@ module _ (s : List ℕ) where
   pub id_past : (at width count i : ℕ) → count ≤ i → get_or (ids_at s at width count) i 0 ≡ 0
   id_past at width count i past = get_or-eq_default (ids_at s at width count) 0 (omega (arith, length_ids s at width count, past))
 
-  pub rise_first : (at width count : ℕ) {id : ℕ} → 1 ≤ count → SmallAt s at width id →
-      rising (ids_at s at width count) ≡ rising (id ∷ ids_at s (at + width) width (count - 1))
-  rise_first at width count some read =
-      ap rising (ids_step s at width count some) ∙ ap (λ (v : ℕ). rising (v ∷ ids_at s (at + width) width (count - 1))) (sym read.number)
-
   module _ (before at width left : ℕ) where
     pub rise_none : left ≤ 0 → rising (before ∷ ids_at s at width left) ≡ true
     unfolding rising
@@ -48,9 +43,19 @@ module _ (s : List ℕ) where
       unfolding rising
       rise_stop low = ap (λ (vs : List ℕ). rising (before ∷ vs)) as_read ∙ rw (le-ltb before id low)
 
-      pub rise_next : before < id → rising (before ∷ ids_at s at width left) ≡ rising (id ∷ ids_at s (at + width) width (left - 1))
+      next_left : before < id → rising (before ∷ ids_at s at width left) ≡ rising (id ∷ ids_at s (at + width) width (left - 1))
       unfolding rising
-      rise_next less = ap (λ (vs : List ℕ). rising (before ∷ vs)) as_read ∙ rw (lt-ltb before id less)
+      next_left less = ap (λ (vs : List ℕ). rising (before ∷ vs)) as_read ∙ rw (lt-ltb before id less)
+
+  -- the i-th of `count` ids is above the one before
+  module _ (before at width count i : ℕ) {id : ℕ} (some : i < count) (read : SmallAt s (at + i * width) width id) where
+    pub rise_next : before < id → rising (before ∷ ids_at s (at + i * width) width (count - i)) ≡ rising (id ∷ ids_at s (at + (i + 1) * width) width (count - (i + 1)))
+    rise_next less =
+        let next : at + i * width + width ≡ at + (i + 1) * width = omega (arith, add-mul i 1 width, one-mul width) in
+        let fewer : count - i - 1 ≡ count - (i + 1) = omega arith in
+        next_left before (at + i * width) width (count - i) (omega arith) read less
+        ∙ ap (λ (place : ℕ). rising (id ∷ ids_at s place width (count - i - 1))) next
+        ∙ ap (λ (left : ℕ). rising (id ∷ ids_at s (at + (i + 1) * width) width left)) fewer
 
 -- the range rules of leaves, one after the other
 module _ (due : Due) (s : List ℕ) (at : ℕ) {count : ℕ} (counted : SmallAt s at 1 count) where
@@ -68,14 +73,6 @@ module _ (due : Due) (s : List ℕ) (at : ℕ) {count : ℕ} (counted : SmallAt 
       rw (le-ltb (length (leaves_at due s at)) 1 (omega (arith, many)), lt-ltb due.k (length (leaves_at due s at)) (omega (arith, many)))
 
   module _ (some : 1 ≤ count) (few : count ≤ due.k) {rises : Bool} (told : rises ≡ rising (ids_at s (at + 1) due.form.width count)) where
-    pub leaves_fall : rises ≡ false → false ≡ not (leaves_range due (leaves_at due s at))
-    leaves_fall falls =
-        rw (
-          le-ltb (length (leaves_at due s at)) 1 (omega (arith, many)),
-          le-ltb due.k (length (leaves_at due s at)) (omega (arith, many)),
-          ap rising same ∙ sym told ∙ falls,
-        )
-
     pub leaves_told : rises ≡ true → {below : Bool} → below ≡ not (some_from due.nodes (ids_at s (at + 1) due.form.width count)) →
         below ≡ not (leaves_range due (leaves_at due s at))
     leaves_told rise below =

@@ -1,5 +1,6 @@
 -- Bytes of sound shape are exactly as long as the encoding of the sheet that they stand for: each field ends where its encoding would, and
 -- nothing follows the last.
+use Rattle.std.specs.Prelude.{Ok, Err}
 use Prim.Native.Nat.{ℕ, zero, suc, ◌+◌, ◌*◌, ◌-◌, ◌≤◌}
 use native.Mathlib.Omega.{arith}
 use mathlib.Core.Path.{◌≡◌, refl, ap, ◌∙◌}
@@ -9,8 +10,7 @@ use borrow.Author.Tests.{ltb-false}
 use lib.ListN.{length, length-append}
 use lib.Dec.{ltb, eqb}
 use Rattle.drawing.specs.paper.Bytes.{number_at, ids_at}
-use Rattle.sheet.specs.declared.Ruling.{Ruling}
-use Rattle.sheet.specs.declared.Ruling.TheVariants.{Sound, Faulty}
+use Rattle.sheet.specs.paper.Shape.{Ruling}
 use Rattle.sheet.specs.paper.Sheet.{Sheet}
 use Rattle.sheet.specs.paper.Encoding.{path_bytes, head_field, line_field, lut_field, encode}
 use Rattle.sheet.specs.paper.Shape.{Due, end_at, path_end, paths_at, depth_at, count_at, head_ruling, leaves_count, line_cut}
@@ -41,7 +41,7 @@ paths_sized s width at (suc q) =
 -- What a sound field says: the head, how many LUTs there are at most; a line and a LUT, where their encodings would end.
 module _ (due : Due) (s : List ℕ) where
   -- "LUT count above G"
-  head_few : head_ruling due s ≡ Sound → count_at due s ≤ due.nodes - due.inputs
+  head_few : head_ruling due s ≡ Ok tt → count_at due s ≤ due.nodes - due.inputs
   head_few sound =
       let version = not (eqb (number_at s 3 1) 1) in
       let deep = ltb due.most (depth_at due s) in
@@ -49,7 +49,7 @@ module _ (due : Due) (s : List ℕ) where
       let last = (or_none deep many (or_none version (deep || many) (head_kept due s sound).ranged).1).1 in
       ltb-false (due.nodes - due.inputs) (count_at due s) last
 
-  line_sized : (at : ℕ) → line_ruling due s at ≡ Sound → end_at s at ≡ at + length (line_field due.form (line_at due s at))
+  line_sized : (at : ℕ) → line_ruling due s at ≡ Ok tt → end_at s at ≡ at + length (line_field due.form (line_at due s at))
   line_sized at ruled =
       let width = due.form.width in
       omega (
@@ -61,7 +61,7 @@ module _ (due : Due) (s : List ℕ) where
         ap (λ (n : ℕ). n * width) (length_ids s (line_cut due s at + 1) width (leaves_count due s (line_cut due s at))),
       )
 
-  lut_sized : (least at : ℕ) → lut_ruling due s least at ≡ Sound → end_at s at ≡ at + length (lut_field due.form (lut_at due s at))
+  lut_sized : (least at : ℕ) → lut_ruling due s least at ≡ Ok tt → end_at s at ≡ at + length (lut_field due.form (lut_at due s at))
   lut_sized least at ruled =
       let width = due.form.width in
       omega (
@@ -78,23 +78,23 @@ record Measured {A : Type 0} (s : List ℕ) (bytes : A → List ℕ) (count at :
   inside : fields.next ≤ length s
 
 module _ {A : Type 0} (s : List ℕ) (bytes : A → List ℕ) where
-  measured_none : (at : ℕ) → at ≤ length s → Measured s bytes 0 at (record { read = []; ruling = Sound; next = at })
+  measured_none : (at : ℕ) → at ≤ length s → Measured s bytes 0 at (record { read = []; ruling = Ok tt; next = at })
   unfolding flat_map
   measured_none at inside = record { counted = refl; sized = omega arith; inside = inside }
 
-  measured_more : (r : Ruling) (a : A) (at : ℕ) (rest : Fields A) {count : ℕ} → (and_field r a at rest).ruling ≡ Sound →
+  measured_more : (r : Ruling) (a : A) (at : ℕ) (rest : Fields A) {count : ℕ} → (and_field r a at rest).ruling ≡ Ok tt →
       end_at s at ≡ at + length (bytes a) → Measured s bytes count (end_at s at) rest → Measured s bytes (suc count) at (and_field r a at rest)
   unfolding flat_map
-  measured_more Sound a at rest sound ends later =
+  measured_more (Ok tt) a at rest sound ends later =
       record {
         counted = ap suc later.counted;
         sized = omega (arith, later.sized, ends, length-append (bytes a) (flat_map bytes rest.read));
         inside = later.inside;
       }
-  measured_more (Faulty f) a at rest sound ends later = absurd (not_sound sound)
+  measured_more (Err f) a at rest sound ends later = absurd (not_sound sound)
 
 module _ (due : Due) (s : List ℕ) where
-  lines_measured : (gates at : ℕ) → (lines_from due s gates at).ruling ≡ Sound → at ≤ length s →
+  lines_measured : (gates at : ℕ) → (lines_from due s gates at).ruling ≡ Ok tt → at ≤ length s →
       Measured s (line_field due.form) gates at (lines_from due s gates at)
   unfolding lines_from
   lines_measured zero at sound inside = measured_none s (line_field due.form) at inside
@@ -105,7 +105,7 @@ module _ (due : Due) (s : List ℕ) where
       let later = lines_measured gates (end_at s at) (rest_sound (line_ruling due s at) line at rest sound) (line_end due s at ruled) in
       measured_more s (line_field due.form) (line_ruling due s at) line at rest sound (line_sized due s at ruled) later
 
-  luts_measured : (luts least at : ℕ) → (luts_from due s luts least at).ruling ≡ Sound → at ≤ length s →
+  luts_measured : (luts least at : ℕ) → (luts_from due s luts least at).ruling ≡ Ok tt → at ≤ length s →
       Measured s (lut_field due.form) luts at (luts_from due s luts least at)
   unfolding luts_from
   luts_measured zero least at sound inside = measured_none s (lut_field due.form) at inside
@@ -116,7 +116,7 @@ module _ (due : Due) (s : List ℕ) where
       let later = luts_measured luts (lut.root + 1) (end_at s at) (rest_sound (lut_ruling due s least at) lut at rest sound) (lut_end due s least at ruled) in
       measured_more s (lut_field due.form) (lut_ruling due s least at) lut at rest sound (lut_sized due s least at ruled) later
 
-  module _ (sound : (reading due s).ruling ≡ Sound) where
+  module _ (sound : (reading due s).ruling ≡ Ok tt) where
     all : Whole due s
     all = whole due s sound
 

@@ -1,10 +1,11 @@
 -- A field's ruling from what is told of it, and from its frame's and its value's.
-use Prim.Native.Nat.{ℕ, ◌-◌, ◌<◌, ◌≤◌}
+use Rattle.std.specs.Prelude.{Ok, Err}
+use Prim.Native.Nat.{ℕ, ◌-◌, ◌≤◌}
 use native.Mathlib.Omega.{arith}
-use mathlib.Core.Path.{◌≡◌, refl, ap, sym, ◌∙◌}
-use mathlib.Core.Bool.{Bool, true, false, not, cond}
+use mathlib.Core.Path.{◌≡◌, refl, sym, ◌∙◌}
+use mathlib.Core.Bool.{Bool, true, false, not}
 use mathlib.Core.List.{List, ◌∷◌}
-use borrow.Author.Tests.{ltb-true, ltb-false, not-true, not-false}
+use borrow.Author.Tests.{ltb-false, not-true, not-false}
 use lib.ListN.{length}
 use lib.Dec.{ltb, eqb}
 use Rattle.drawing.specs.paper.Limits.{frame_size}
@@ -12,63 +13,32 @@ use Rattle.drawing.specs.paper.Rules.{◌⇒◌, first}
 use Rattle.drawing.specs.paper.Bytes.{tag_at, length_at, value_at}
 use Rattle.sheet.specs.declared.Fault.{Fault}
 use Rattle.sheet.specs.declared.Fault.TheVariants.{Torn, Tag, Length, Range}
-use Rattle.sheet.specs.declared.Ruling.{Ruling}
-use Rattle.sheet.specs.declared.Ruling.TheVariants.{Sound, Faulty}
+use Rattle.sheet.specs.paper.Shape.{Ruling}
 use Rattle.sheet.specs.paper.Shape.{field_rules, end_at}
-use Rattle.shaping.specs.declared.fields.Front.{Front}
-use Rattle.shaping.specs.declared.fields.Field.{Field}
-use Rattle.shaping.specs.declared.fields.Field.TheVariants.{Short, Begun}
-use Rattle.shaping.specs.Fields.{field_at, value_rules}
+use Rattle.shaping.specs.Fields.{value_rules}
 
-pub not_sound : {f : Fault} → Faulty f ≡ Sound → ⊥
+pub not_sound : {f : Fault} → ◌≡◌ {A = Ruling} (Err f) (Ok tt) → ⊥
 not_sound e = let z : ◌≡◌ {A = ℕ} 0 1 = cc in omega arith
-
--- what is told of a field, either way
-told_short : (short : Bool) (front : Front) → cond short Short (Begun front) ≡ Short → short ≡ true
-told_short true front e = refl
-told_short false front e = absurd (let z : ◌≡◌ {A = ℕ} 0 1 = cc in omega arith)
-
-told_begun : (short : Bool) (front x : Front) → cond short Short (Begun front) ≡ Begun x → (short ≡ false) × (front ≡ x)
-told_begun true front x e = absurd (let z : ◌≡◌ {A = ℕ} 0 1 = cc in omega arith)
-told_begun false front x e = (refl, cc)
-
-module _ (s : List ℕ) (at : ℕ) {field : Field} (told : field ≡ field_at s at) where
-  pub field_short : field ≡ Short → length s - at < frame_size
-  field_short e = ltb-true (length s - at) frame_size (told_short (ltb (length s - at) frame_size) _ (sym told ∙ e))
-
-  pub record Begins (x : Front) : Type 0 where
-    pub long : frame_size ≤ length s - at
-    pub tag : x.tag ≡ tag_at s at
-    pub size : x.size ≡ length_at s at
-
-  pub field_begun : {x : Front} → field ≡ Begun x → Begins x
-  field_begun {x} e =
-      let both = told_begun (ltb (length s - at) frame_size) (record { tag = tag_at s at; size = length_at s at }) x (sym told ∙ e) in
-      record {
-        long = ltb-false (length s - at) frame_size both.0;
-        tag = ap (λ (f : Front). f.tag) (sym both.1);
-        size = ap (λ (f : Front). f.size) (sym both.1);
-      }
 
 -- the five rules of a field at `at`: the first three do not look at the others
 module _ (at : ℕ) where
   abbrev five : (x y z a b : Bool) → Ruling
   five x y z a b =
-      first Sound ((x ⇒ Faulty (Torn at)) ∷ (y ⇒ Faulty (Tag at)) ∷ (z ⇒ Faulty (Torn at)) ∷ value_rules at a b)
+      first (Ok tt) ((x ⇒ Err (Torn at)) ∷ (y ⇒ Err (Tag at)) ∷ (z ⇒ Err (Torn at)) ∷ value_rules at a b)
 
-  five_faulty : (x y z a b : Bool) {f : Fault} → five x y z false false ≡ Faulty f → five x y z a b ≡ Faulty f
+  five_faulty : (x y z a b : Bool) {f : Fault} → five x y z false false ≡ Err f → five x y z a b ≡ Err f
   five_faulty true y z a b e = e
   five_faulty false true z a b e = e
   five_faulty false false true a b e = e
   five_faulty false false false a b e = absurd (not_sound (sym e))
 
-  five_sound : (x y z a b : Bool) → five x y z false false ≡ Sound → five x y z a b ≡ first Sound (value_rules at a b)
+  five_sound : (x y z a b : Bool) → five x y z false false ≡ Ok tt → five x y z a b ≡ first (Ok tt) (value_rules at a b)
   five_sound true y z a b e = absurd (not_sound e)
   five_sound false true z a b e = absurd (not_sound e)
   five_sound false false true a b e = absurd (not_sound e)
   five_sound false false false a b e = refl
 
-  none_holds : (x y z a b : Bool) → five x y z a b ≡ Sound → (x ≡ false) × (y ≡ false) × (z ≡ false) × (a ≡ false) × (b ≡ false)
+  none_holds : (x y z a b : Bool) → five x y z a b ≡ Ok tt → (x ≡ false) × (y ≡ false) × (z ≡ false) × (a ≡ false) × (b ≡ false)
   none_holds true y z a b e = absurd (not_sound e)
   none_holds false true z a b e = absurd (not_sound e)
   none_holds false false true a b e = absurd (not_sound e)
@@ -78,14 +48,14 @@ module _ (at : ℕ) where
 
   -- a value's two tests, as they are answered one after the other
   module _ (a b : Bool) {fits : Bool} (first-told : fits ≡ not a) where
-    pub value_wrong : fits ≡ false → Faulty (Length at) ≡ first Sound (value_rules at a b)
+    pub value_wrong : fits ≡ false → Err (Length at) ≡ first (Ok tt) (value_rules at a b)
     value_wrong e = rw (not-false a (sym first-told ∙ e))
 
     module _ {good : Bool} (then-told : good ≡ not b) (e : fits ≡ true) where
-      pub value_far : good ≡ false → Faulty (Range at) ≡ first Sound (value_rules at a b)
+      pub value_far : good ≡ false → Err (Range at) ≡ first (Ok tt) (value_rules at a b)
       value_far f = rw (not-true a (sym first-told ∙ e), not-false b (sym then-told ∙ f))
 
-      pub value_sound : good ≡ true → Sound ≡ first Sound (value_rules at a b)
+      pub value_sound : good ≡ true → (Ok tt) ≡ first (Ok tt) (value_rules at a b)
       value_sound f = rw (not-true a (sym first-told ∙ e), not-true b (sym then-told ∙ f))
 
 module _ (s : List ℕ) (at tag : ℕ) where
@@ -105,7 +75,7 @@ module _ (s : List ℕ) (at tag : ℕ) where
     pub right : length-wrong ≡ false
     pub ranged : out_of_range ≡ false
 
-  pub field_kept : {a b : Bool} → first Sound (field_rules s at tag a b) ≡ Sound → Kept a b
+  pub field_kept : {a b : Bool} → first (Ok tt) (field_rules s at tag a b) ≡ Ok tt → Kept a b
   unfolding torn other past
   field_kept {a} {b} sound =
       let rules = none_holds at torn other past a b sound in
@@ -120,14 +90,11 @@ module _ (s : List ℕ) (at tag : ℕ) where
   pub field_inside : {a b : Bool} → Kept a b → end_at s at ≤ length s
   field_inside kept = omega (arith, kept.begun, kept.inside)
 
-  module _ (a b : Bool) {framed : Ruling} (ruled : framed ≡ first Sound (field_rules s at tag false false)) where
-    pub frame_faulty : {f : Fault} → framed ≡ Faulty f → Faulty f ≡ first Sound (field_rules s at tag a b)
+  module _ (a b : Bool) {framed : Ruling} (ruled : framed ≡ first (Ok tt) (field_rules s at tag false false)) where
+    pub frame_faulty : {f : Fault} → framed ≡ Err f → Err f ≡ first (Ok tt) (field_rules s at tag a b)
     unfolding torn other past
     frame_faulty e = sym (five_faulty at torn other past a b (sym ruled ∙ e))
 
-    pub frame_fits : framed ≡ Sound → end_at s at ≤ length s
-    frame_fits e = field_inside {a = false} {b = false} (field_kept {a = false} {b = false} (sym ruled ∙ e))
-
-    pub frame_sound : {r : Ruling} → framed ≡ Sound → r ≡ first Sound (value_rules at a b) → r ≡ first Sound (field_rules s at tag a b)
+    pub frame_sound : {r : Ruling} → framed ≡ Ok tt → r ≡ first (Ok tt) (value_rules at a b) → r ≡ first (Ok tt) (field_rules s at tag a b)
     unfolding torn other past
     frame_sound e value = value ∙ sym (five_sound at torn other past a b (sym ruled ∙ e))

@@ -1,50 +1,23 @@
--- The tests on a field's value, one after the other as the code makes them: head, line and LUT.
-use Prim.Native.Nat.{ℕ, ◌+◌, ◌*◌, ◌-◌, ◌<◌, ◌≤◌}
+-- The tests on a field's value, one after the other as the code makes them: a line's, and where a LUT's table stands.
+use Prim.Native.Nat.{ℕ, ◌+◌, ◌*◌, ◌<◌, ◌≤◌}
 use native.Mathlib.Omega.{arith}
 use mathlib.Core.Path.{◌≡◌, refl, ap, sym, ◌∙◌}
 use mathlib.Core.Bool.{Bool, true, false, not, ◌||◌, not-not}
 use mathlib.Core.List.{List}
-use borrow.Author.Tests.{lt-ltb, le-ltb, le-leb, lt-leb, eq-eqb, ne_eqb, ltb-false, eqb-true, not-true, not-false}
+use borrow.Author.Tests.{lt-ltb, le-ltb, ltb-false, eqb-true, not-true, not-false}
 use lib.ListN.{length}
 use lib.Dec.{ltb, eqb}
 use Rattle.drawing.specs.paper.Bytes.{number_at, length_at}
 use Rattle.drawing.specs.Bytes.{SmallAt}
-use Rattle.sheet.specs.paper.Shape.{Due, end_at, paths_use, depth_at, count_at, leaves_range, leaves_at, leaves_end, line_cut}
-use Rattle.sheet.specs.paper.Shape.{line_paths, line_at, line_range, line_length_wrong, lut_cut, lut_at, lut_range}
+use Rattle.sheet.specs.paper.Shape.{Due, end_at, paths_use, leaves_range, leaves_at, leaves_end, line_cut}
+use Rattle.sheet.specs.paper.Shape.{line_paths, line_at, line_range, line_length_wrong, lut_cut}
 use Rattle.sheet.specs.paper.Shape.{lut_length_wrong}
 use Rattle.shaping.specs.Numbers.{paths_end}
-use Rattle.shaping.specs.Fields.{head_out_of_range}
 use Rattle.shaping.proofs.PathLists.{paths_length, used_to, out_of_range}
 
 pub or_none : (a b : Bool) → (a || b) ≡ false → (a ≡ false) × (b ≡ false)
 or_none true b e = absurd (let z : ◌≡◌ {A = ℕ} 0 1 = cc in omega arith)
 or_none false b e = (refl, e)
-
-module _ (due : Due) (s : List ℕ) {version : ℕ} (one : SmallAt s 3 1 version) where
-  pub head_version : (version ≡ 1 → ⊥) → false ≡ not (head_out_of_range due s)
-  head_version other = rw (ne_eqb (number_at s 3 1) 1 (λ e. other (one.number ∙ e)))
-
-  module _ {depth : ℕ} (deep : SmallAt s 4 due.form.width depth) (right : version ≡ 1) where
-    pub head_deep : due.most < depth → false ≡ not (head_out_of_range due s)
-    head_deep far =
-        rw (eq-eqb (number_at s 3 1) 1 (omega (arith, one.number)), lt-ltb due.most (depth_at due s) (omega (arith, deep.number)))
-
-    module _ {luts : ℕ} (count : SmallAt s (4 + due.form.width) due.form.width luts) (near : depth ≤ due.most) where
-      pub head_many : due.nodes - due.inputs < luts → false ≡ not (head_out_of_range due s)
-      head_many far =
-          rw (
-            eq-eqb (number_at s 3 1) 1 (omega (arith, one.number)),
-            le-ltb due.most (depth_at due s) (omega (arith, deep.number)),
-            lt-ltb (due.nodes - due.inputs) (count_at due s) (omega (arith, count.number)),
-          )
-
-      pub head_good : luts ≤ due.nodes - due.inputs → true ≡ not (head_out_of_range due s)
-      head_good few =
-          rw (
-            eq-eqb (number_at s 3 1) 1 (omega (arith, one.number)),
-            le-ltb due.most (depth_at due s) (omega (arith, deep.number)),
-            le-ltb (due.nodes - due.inputs) (count_at due s) (omega (arith, count.number)),
-          )
 
 module _ (due : Due) (s : List ℕ) (at : ℕ) where
   -- a line: its length
@@ -116,24 +89,8 @@ module _ (due : Due) (s : List ℕ) (at : ℕ) where
 
   -- a line: its range
   module _ {label : ℕ} (labelled : SmallAt s (at + 3) due.form.width label) where
-    pub line_low : label < 1 → false ≡ not (line_range due (line_at due s at))
-    line_low low = rw (lt-ltb (line_at due s at).label 1 (omega (arith, labelled.number)))
-
-    pub line_high : 1 ≤ label → due.most < label → false ≡ not (line_range due (line_at due s at))
-    line_high some high =
-        rw
-        (le-ltb (line_at due s at).label 1 (omega (arith, labelled.number)), lt-ltb due.most (line_at due s at).label (omega (arith, labelled.number)))
-
     module _ (some : 1 ≤ label) (few : label ≤ due.most) {good : Bool}
         (told : good ≡ not (leaves_range due (leaves_at due s (at + 3 + due.form.width)))) where
-      pub line_leaves : good ≡ false → false ≡ not (line_range due (line_at due s at))
-      line_leaves bad =
-          rw (
-            le-ltb (line_at due s at).label 1 (omega (arith, labelled.number)),
-            le-ltb due.most (line_at due s at).label (omega (arith, labelled.number)),
-            not-false (leaves_range due (line_at due s at).leaves) (sym told ∙ bad),
-          )
-
       module _ {c : ℕ} (cut : SmallAt s (at + 3 + due.form.width) 1 c) {q : ℕ}
           (counted : SmallAt s (at + 3 + due.form.width + 1 + c * due.form.width) 1 q) {right : Bool}
           (tested : right ≡ (eqb q 0 || eqb q (due.k + 1))) (fine : good ≡ true) where
@@ -161,46 +118,9 @@ module _ (due : Due) (s : List ℕ) (at : ℕ) where
             )
             (last ∙ ap not (same_range cut counted due.nodes))
 
-  -- a LUT: its length
-  pub lut_torn : length_at s at < due.form.width + 1 → false ≡ not (lut_length_wrong due s at)
-  lut_torn short = rw (lt-ltb (end_at s at) (lut_cut due s at + 1) (omega arith))
-
-  module _ {c : ℕ} (some : due.form.width + 1 ≤ length_at s at) (cut : SmallAt s (at + 3 + due.form.width) 1 c) where
-    pub lut_other : (due.form.width + 1 + c * due.form.width + 8 ≡ length_at s at → ⊥) → false ≡ not (lut_length_wrong due s at)
-    lut_other other =
-        let same = ap (λ (n : ℕ). n * due.form.width) cut.number in
-        rw (
-          le-ltb (end_at s at) (lut_cut due s at + 1) (omega arith),
-          ne_eqb (leaves_end due s (lut_cut due s at) + 8) (end_at s at) (λ e. other (omega (arith, same, e))),
-        )
-
-    pub lut_used : due.form.width + 1 + c * due.form.width + 8 ≡ length_at s at → true ≡ not (lut_length_wrong due s at)
-    lut_used all =
-        let same = ap (λ (n : ℕ). n * due.form.width) cut.number in
-        rw (
-          le-ltb (end_at s at) (lut_cut due s at + 1) (omega arith),
-          eq-eqb (leaves_end due s (lut_cut due s at) + 8) (end_at s at) (omega (arith, same, all)),
-        )
-
   -- where the table of a LUT of right length stands
   pub lut_parts : lut_length_wrong due s at ≡ false → leaves_end due s (lut_cut due s at) + 8 ≡ end_at s at
   lut_parts right =
       let end = end_at s at in
       let same = eqb (leaves_end due s (lut_cut due s at) + 8) end in
       eqb-true (leaves_end due s (lut_cut due s at) + 8) end (not-false same (or_none (ltb end (lut_cut due s at + 1)) (not same) right).1)
-
-  -- a LUT: its range
-  module _ {root : ℕ} (rooted : SmallAt s (at + 3) due.form.width root) (least : ℕ) where
-    pub lut_low : root < least → false ≡ not (lut_range due least (lut_at due s at))
-    lut_low low = rw (lt-ltb (lut_at due s at).root least (omega (arith, rooted.number)))
-
-    pub lut_high : least ≤ root → due.nodes ≤ root → false ≡ not (lut_range due least (lut_at due s at))
-    lut_high some high =
-        rw (le-ltb (lut_at due s at).root least (omega (arith, rooted.number)), le-leb due.nodes (lut_at due s at).root (omega (arith, rooted.number)))
-
-    pub lut_told : least ≤ root → root < due.nodes → {good : Bool} →
-        good ≡ not (leaves_range due (leaves_at due s (at + 3 + due.form.width))) → good ≡ not (lut_range due least (lut_at due s at))
-    lut_told some few told =
-        rw
-        (le-ltb (lut_at due s at).root least (omega (arith, rooted.number)), lt-leb due.nodes (lut_at due s at).root (omega (arith, rooted.number)))
-        told

@@ -1,9 +1,8 @@
 -- A sheet of sound shape in arrays: what each array holds, node by node.
-use Rattle.std.specs.Prelude.{ℕ, zero, suc, ◌+◌, ◌*◌, ◌-◌, ◌/◌, ◌%◌, ◌^◌, ◌≤◌, ◌<◌, ◌≡◌, Bool, true, false, cond, List, [], ◌∷◌, length, get_or, set, ltb}
+use Rattle.std.specs.Prelude.{ℕ, zero, suc, ◌+◌, ◌*◌, ◌-◌, ◌/◌, ◌%◌, ◌^◌, ◌≤◌, ◌<◌, ◌≡◌, Bool, true, false, cond, List, [], ◌∷◌, length, get_or, set, ltb, Ok}
 use Rattle.theory.specs.paper.Values.{bit}
 use Rattle.drawing.specs.Bytes.{Narrow}
 use Rattle.drawing.specs.paper.Limits.{most_k}
-use Rattle.sheet.specs.declared.Ruling.TheVariants.{Sound}
 use Rattle.sheet.specs.paper.Sheet.{Line, Lut}
 use Rattle.sheet.specs.paper.Shape.{Due, end_at, reading}
 use Rattle.sheet.specs.paper.Rules.{line_of_node, is_listed, leaves_listed, table_listed}
@@ -105,7 +104,7 @@ pub record Loadable (due : Due) (s : List ℕ) : Type 0 where
   pub gates : due.inputs ≤ due.nodes
   pub nodes : due.nodes ≤ 32767
   pub short : length s < 2 ^ 32
-  pub sound : (reading due s).ruling ≡ Sound
+  pub sound : (reading due s).ruling ≡ Ok tt
 
 -- The sheet loaded: its lines, its LUTs, and the head's depth as the answer.
 pub record Loaded (due : Due) (s : List ℕ) (a : LineArrays) (b : LutArrays) (r : ℕ) (a' : LineArrays) (b' : LutArrays) : Type 0 where

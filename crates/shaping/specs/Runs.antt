@@ -1,24 +1,18 @@
 -- Pass one on its way through the fields: what is due, the ruling that will follow, and what a turn leaves.
-use Rattle.std.specs.Prelude.{ℕ, ◌+◌, ◌-◌, ◌≤◌, ◌<◌, ◌≡◌, Bool, true, false, cond, List, length, ltb}
-use Rattle.drawing.specs.Bytes.{Narrow}
+use Rattle.std.specs.Prelude.{ℕ, ◌+◌, ◌≤◌, ◌<◌, ◌≡◌, cond, List, length, ltb, Option, None, Some, Result, Ok, Err}
+use Rattle.sheet.specs.declared.Fault.{Fault}
 use Rattle.sheet.specs.declared.Fault.TheVariants.{Extra}
-use Rattle.sheet.specs.declared.Ruling.{Ruling}
-use Rattle.sheet.specs.declared.Ruling.TheVariants.{Sound, Faulty}
-use Rattle.sheet.specs.paper.Shape.{Due, end_at, count_at, lines_from, luts_from, reading}
-use Rattle.shaping.specs.declared.Terms.{Terms}
-use Rattle.shaping.specs.declared.fields.Field.{Field}
-use Rattle.shaping.specs.declared.runs.Run.{Run}
-use Rattle.shaping.specs.declared.runs.Run.TheVariants.{Head, Fields, Ended}
-use Rattle.shaping.specs.Fields.{field_at}
+use Rattle.sheet.specs.paper.Shape.{Ruling, Due, end_at, lines_from, luts_from}
+use Rattle.shaping.specs.declared.runs.Left.{Left}
 
 -- a ruling, and another where it is sound
 abbrev pub then : Ruling → Ruling → Ruling
-then Sound r = r
-then (Faulty f) r = Faulty f
+then (Ok tt) r = r
+then (Err f) r = Err f
 
 -- "bytes after the last LUT": "Extra ends pass one"
 abbrev pub extra_ruling : List ℕ → (at : ℕ) → Ruling
-extra_ruling s at = cond (ltb at (length s)) (Faulty (Extra at)) Sound
+extra_ruling s at = cond (ltb at (length s)) (Err (Extra at)) (Ok tt)
 
 module _ (due : Due) (s : List ℕ) where
   -- the ruling on what is left from `at` on: lines, LUTs, and that nothing follows
@@ -28,40 +22,36 @@ module _ (due : Due) (s : List ℕ) where
       let after = luts_from due s luts least before.next in
       then before.ruling (then after.ruling (extra_ruling s after.next))
 
-  abbrev pub run_ruling : (at : ℕ) → Run → Ruling
-  run_ruling at Head = (reading due s).ruling
-  run_ruling at (Fields left) = left_ruling left.lines left.luts left.least at
-  run_ruling at (Ended ruling) = ruling
+  abbrev pub due_ruling : (at : ℕ) → Left → Ruling
+  due_ruling at left = left_ruling left.lines left.luts left.least at
 
-  -- how many turns there can be, the one that looks for surplus bytes included
-  abbrev pub turns_left : Run → ℕ
-  turns_left Head = 2 + (due.nodes - due.inputs) + count_at due s
-  turns_left (Fields left) = 1 + left.lines + left.luts
-  turns_left (Ended ruling) = 0
+  -- the ruling to come, by what a turn leaves: its fault, or the ruling on what is due from `at` on
+  abbrev pub turn_ruling : (at : ℕ) → Result Left Fault → Ruling
+  turn_ruling at (Ok left) = due_ruling at left
+  turn_ruling at (Err f) = Err f
 
-abbrev pub has_ended : Run → Bool
-has_ended Head = false
-has_ended (Fields left) = false
-has_ended (Ended ruling) = true
+  -- and where nothing is due, the sheet is sound
+  abbrev pub field_ruling : (at : ℕ) → Result (Option Left) Fault → Ruling
+  field_ruling at (Ok (Some left)) = due_ruling at left
+  field_ruling at (Ok None) = Ok tt
+  field_ruling at (Err f) = Err f
 
--- What is asked of the terms: ids of one byte or two, and gates that follow the inputs.
-pub record Judgeable (terms : Terms) : Type 0 where
-  pub narrow : Narrow terms.form.width
-  pub gates : terms.numbers.inputs ≤ terms.numbers.nodes
+-- how many fields there still are
+abbrev pub turns_left : Left → ℕ
+turns_left left = left.lines + left.luts
 
--- A turn can be taken at this place: it lies within the bytes, and the head stands at the front.
-pub record Stands (s : List ℕ) (at : ℕ) (run : Run) : Type 0 where
-  pub inside : at ≤ length s
-  pub front : run ≡ Head → at ≡ 0
+-- A turn at `at` leaves the ruling to come as it was; and where it finds no fault, its field lies within the bytes.
+pub record GoesOn (due : Due) (s : List ℕ) (at : ℕ) (ruling : Ruling) (r : Result Left Fault) : Type 0 where
+  pub same : ruling ≡ turn_ruling due s (end_at s at) r
+  pub inside : {left : Left} → r ≡ Ok left → end_at s at ≤ length s
 
--- What a turn asks: terms, a place, and what is told of the field there.
-pub record TurnAsked (terms : Terms) (s : List ℕ) (at : ℕ) (field : Field) (run : Run) : Type 0 where
-  pub good : Judgeable terms
-  pub stands : Stands s at run
-  pub told : field ≡ field_at s at
+-- The turn of a line or a LUT, behind which fewer are due.
+pub record Turned (due : Due) (s : List ℕ) (at : ℕ) (left : Left) (r : Result Left Fault) : Type 0 where
+  pub goes_on : GoesOn due s at (due_ruling due s at left) r
+  pub less : {next : Left} → r ≡ Ok next → turns_left next < turns_left left
 
--- A turn at `at` leaves the ruling to come as it was; and unless it was the last, a turn can be taken behind the field.
-pub record Turned (due : Due) (s : List ℕ) (at : ℕ) (run r : Run) : Type 0 where
-  pub same : run_ruling due s at run ≡ run_ruling due s (end_at s at) r
-  pub stands : has_ended r ≡ false → Stands s (end_at s at) r
-  pub less : has_ended r ≡ false → turns_left due s r < turns_left due s run
+-- The turn of whatever is due at `at`, which may be nothing.
+pub record FieldJudged (due : Due) (s : List ℕ) (at : ℕ) (left : Left) (r : Result (Option Left) Fault) : Type 0 where
+  pub same : due_ruling due s at left ≡ field_ruling due s (end_at s at) r
+  pub inside : {next : Left} → r ≡ Ok (Some next) → end_at s at ≤ length s
+  pub less : {next : Left} → r ≡ Ok (Some next) → turns_left next < turns_left left

@@ -1,9 +1,8 @@
 -- What the loops that load a sheet ask and leave, field by field.
-use Rattle.std.specs.Prelude.{ℕ, ◌+◌, ◌-◌, ◌^◌, ◌≤◌, ◌<◌, ◌≡◌, cond, List, length, eqb}
+use Rattle.std.specs.Prelude.{ℕ, ◌+◌, ◌-◌, ◌^◌, ◌≤◌, ◌<◌, ◌≡◌, cond, List, length, eqb, Ok}
 use Rattle.drawing.specs.paper.Limits.{rows_size}
 use Rattle.drawing.specs.paper.Bytes.{number_at, value_at}
 use Rattle.drawing.specs.Bytes.{Narrow}
-use Rattle.sheet.specs.declared.Ruling.TheVariants.{Sound}
 use Rattle.sheet.specs.paper.Sheet.{Lut}
 use Rattle.sheet.specs.paper.Shape.{Due, end_at, leaves_end, line_cut, lut_cut, luts_from, reading}
 use Rattle.shaping.specs.Loading.{start_of, LineArrays, LinesFilled, listed_at}
@@ -38,5 +37,5 @@ pub record NextReady (due : Due) (s : List ℕ) (at left : ℕ) : Type 0 where
 pub record LutsLeft (due : Due) (s : List ℕ) (luts : List Lut) (v left at : ℕ) : Type 0 where
   pub least : ℕ
   pub low : 0 < left → v ≤ number_at s (value_at at) due.form.width
-  pub sound : (luts_from due s left least at).ruling ≡ Sound
+  pub sound : (luts_from due s left least at).ruling ≡ Ok tt
   pub same : (u : ℕ) → v ≤ u → listed_at luts u ≡ listed_at (luts_from due s left least at).read u

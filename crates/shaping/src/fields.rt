@@ -12,8 +12,8 @@ use crate::numbers::{label_at, leaves_in_range, node_at, size_at};
 use crate::paths::{paths_in_range, paths_use};
 use drawing::bytes::{byte_at, length_at, small_at};
 use drawing::limits::{FRAME, ROWS_SIZE, VERSION, VERSION_AT};
+use sheet::Fault;
 use sheet::limits::{COUNT_SIZE, DEPTH_AT, VERSION_SIZE};
-use sheet::{Fault, Ruling};
 use storage::CutSize;
 
 // What stands at the front of a field: its tag, and how long its value is.
@@ -23,44 +23,33 @@ pub struct Front {
     pub size: usize,
 }
 
-// What is told of the field at a place: nothing where too few bytes are left for its front.
-#[derive(Clone, Copy)]
-pub enum Field {
-    Short,
-    Begun(Front),
-}
-
-// The field at `at`.
-pub fn field_at(sheet: &[u8], at: usize) -> Field
+// The front of the field at `at`: none where too few bytes are left for it.
+pub fn field_at(sheet: &[u8], at: usize) -> Option<Front>
     requires { at ≤ length sheet.now }
     ensures { result ≡ field_at sheet.now at }
 {
     if sheet.len() - at < FRAME {
-        return Field::Short;
+        return None;
     }
-    Field::Begun(Front {
+    Some(Front {
         tag: byte_at(sheet, at),
         size: length_at(sheet, at),
     })
 }
 
 // The rules that every field begins with.
-fn frame(sheet: &[u8], at: usize, field: Field, tag: u8) -> Ruling
+fn frame(sheet: &[u8], at: usize, field: Option<Front>, tag: u8) -> Result<(), Fault>
     requires { field ≡ field_at sheet.now at }
-    ensures { result ≡ first Ruling.Sound (field_rules sheet.now at tag false false) }
+    ensures { result ≡ first (Ok tt) (field_rules sheet.now at tag false false) }
 {
-    match field {
-        Field::Short => Ruling::Faulty(Fault::Torn(at)),
-        Field::Begun(front) => {
-            if front.tag != tag as usize {
-                return Ruling::Faulty(Fault::Tag(at));
-            }
-            if sheet.len() - (at + FRAME) < front.size {
-                return Ruling::Faulty(Fault::Torn(at));
-            }
-            Ruling::Sound
-        }
+    let front = field.ok_or(Fault::Torn(at))?;
+    if front.tag != tag as usize {
+        return Err(Fault::Tag(at));
     }
+    if sheet.len() - (at + FRAME) < front.size {
+        return Err(Fault::Torn(at));
+    }
+    Ok(())
 }
 
 // Where the field at `at` ends.
@@ -78,36 +67,26 @@ fn head_in_range(terms: Terms, sheet: &[u8]) -> bool
     ensures { result ≡ not (head_out_of_range (due_of terms) sheet.now) }
 {
     let width = terms.form.width;
-    if small_at(sheet, VERSION_AT, VERSION_SIZE) != VERSION {
-        return false;
-    }
-    if terms.most.depth < label_at(sheet, DEPTH_AT, width).depth {
-        return false;
-    }
-    if terms.numbers.nodes - terms.numbers.inputs < small_at(sheet, DEPTH_AT + width, width) {
-        return false;
-    }
-    true
+    small_at(sheet, VERSION_AT, VERSION_SIZE) == VERSION
+        && label_at(sheet, DEPTH_AT, width).depth <= terms.most.depth
+        && small_at(sheet, DEPTH_AT + width, width) <= terms.numbers.nodes - terms.numbers.inputs
 }
 
-pub fn head_ruling(terms: Terms, sheet: &[u8], field: Field) -> Ruling
+pub fn head_ruling(terms: Terms, sheet: &[u8], field: Option<Front>) -> Result<(), Fault>
     requires narrow { Narrow terms.form.width }
     requires inputs_le_nodes { terms.numbers.inputs ≤ terms.numbers.nodes }
     requires field_value { field ≡ field_at sheet.now 0 }
     ensures { result ≡ head_ruling (due_of terms) sheet.now }
 {
-    let framed = frame(sheet, 0, field, terms.form.head);
-    if let Ruling::Faulty(f) = framed {
-        return Ruling::Faulty(f);
-    }
+    frame(sheet, 0, field, terms.form.head)?;
     let width = terms.form.width;
     if length_at(sheet, 0) != VERSION_SIZE + width + width {
-        return Ruling::Faulty(Fault::Length(0));
+        return Err(Fault::Length(0));
     }
     if !head_in_range(terms, sheet) {
-        return Ruling::Faulty(Fault::Range(0));
+        return Err(Fault::Range(0));
     }
-    Ruling::Sound
+    Ok(())
 }
 
 // Do the counts of the line at `at` use its value up exactly?
@@ -140,10 +119,7 @@ fn line_uses(terms: Terms, sheet: &[u8], at: usize) -> bool
 fn is_path_count(count: usize, k: CutSize) -> bool
     ensures { result ≡ (eqb count 0 || eqb count (k.leaves + 1)) }
 {
-    if count == 0 {
-        return true;
-    }
-    count == k.leaves as usize + 1
+    count == 0 || count == k.leaves as usize + 1
 }
 
 fn line_in_range(terms: Terms, sheet: &[u8], at: usize) -> bool
@@ -173,25 +149,22 @@ fn line_in_range(terms: Terms, sheet: &[u8], at: usize) -> bool
     paths_in_range(sheet, paths + COUNT_SIZE, width, count, terms.numbers.nodes)
 }
 
-pub fn line_ruling(terms: Terms, sheet: &[u8], at: usize, field: Field) -> Ruling
+pub fn line_ruling(terms: Terms, sheet: &[u8], at: usize, field: Option<Front>) -> Result<(), Fault>
     requires narrow { Narrow terms.form.width }
     requires field_value { field ≡ field_at sheet.now at }
     ensures { result ≡ line_ruling (due_of terms) sheet.now at }
 {
-    let framed = frame(sheet, at, field, terms.form.line);
-    if let Ruling::Faulty(f) = framed {
-        return Ruling::Faulty(f);
-    }
+    frame(sheet, at, field, terms.form.line)?;
     if !line_uses(terms, sheet, at) {
-        return Ruling::Faulty(Fault::Length(at));
+        return Err(Fault::Length(at));
     }
     if !line_in_range(terms, sheet, at) {
-        return Ruling::Faulty(Fault::Range(at));
+        return Err(Fault::Range(at));
     }
-    Ruling::Sound
+    Ok(())
 }
 
-// Do the counts of the LUT at `at` use its value up exactly?
+// Do the counts of the LUT at `at` use its value up exactly? What it shares with `line_uses` are two lines, which no function says plainer.
 fn lut_uses(terms: Terms, sheet: &[u8], at: usize) -> bool
     requires narrow { Narrow terms.form.width }
     requires at_in_bounds { end_at sheet.now at ≤ length sheet.now }
@@ -203,10 +176,7 @@ fn lut_uses(terms: Terms, sheet: &[u8], at: usize) -> bool
         return false;
     }
     let leaves = size_at(sheet, at + FRAME + width).leaves as usize;
-    if width + COUNT_SIZE + leaves * width + ROWS_SIZE != size {
-        return false;
-    }
-    true
+    width + COUNT_SIZE + leaves * width + ROWS_SIZE == size
 }
 
 fn lut_in_range(terms: Terms, least: usize, sheet: &[u8], at: usize) -> bool
@@ -217,30 +187,28 @@ fn lut_in_range(terms: Terms, least: usize, sheet: &[u8], at: usize) -> bool
 {
     let width = terms.form.width;
     let root = node_at(sheet, at + FRAME, width).id as usize;
-    if root < least {
-        return false;
-    }
-    if terms.numbers.nodes <= root {
-        return false;
-    }
-    leaves_in_range(terms, sheet, at + FRAME + width)
+    least <= root && root < terms.numbers.nodes && leaves_in_range(terms, sheet, at + FRAME + width)
 }
 
 // `least`: the lowest root that may follow.
-pub fn lut_ruling(terms: Terms, least: usize, sheet: &[u8], at: usize, field: Field) -> Ruling
+// Not one function with `line_ruling`: its two tests, as closures, would each bring to the contract what they ask, which is no plainer.
+pub fn lut_ruling(
+    terms: Terms,
+    least: usize,
+    sheet: &[u8],
+    at: usize,
+    field: Option<Front>,
+) -> Result<(), Fault>
     requires narrow { Narrow terms.form.width }
     requires field_value { field ≡ field_at sheet.now at }
     ensures { result ≡ lut_ruling (due_of terms) sheet.now least at }
 {
-    let framed = frame(sheet, at, field, terms.form.lut);
-    if let Ruling::Faulty(f) = framed {
-        return Ruling::Faulty(f);
-    }
+    frame(sheet, at, field, terms.form.lut)?;
     if !lut_uses(terms, sheet, at) {
-        return Ruling::Faulty(Fault::Length(at));
+        return Err(Fault::Length(at));
     }
     if !lut_in_range(terms, least, sheet, at) {
-        return Ruling::Faulty(Fault::Range(at));
+        return Err(Fault::Range(at));
     }
-    Ruling::Sound
+    Ok(())
 }

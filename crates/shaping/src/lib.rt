@@ -17,9 +17,10 @@ ghost use Rattle.shaping.specs.Loading.{line_arrays, LineRoom, lut_arrays, LutRo
 
 use crate::loading::{load_lines, load_luts};
 use crate::numbers::label_at;
-use crate::runs::{Run, judge_fields};
+use crate::reader::{begin, move_on, tell};
+use crate::runs::{head_turn, judge_field};
 use sheet::limits::DEPTH_AT;
-use sheet::{Form, Ruling};
+use sheet::{Fault, Form};
 use storage::{Label, Numbers};
 
 // What a sheet is read by: its form, the greatest depth and label, and the numbers of the drawing.
@@ -30,19 +31,20 @@ pub struct Terms {
     pub numbers: Numbers,
 }
 
-// Pass one: the ruling on the shape of a sheet.
-pub fn judge_shape(terms: Terms, sheet: &[u8]) -> Ruling
+// Pass one: the ruling on the shape of a sheet. A reader walks its fields, from the front on, until none is due.
+pub fn judge_shape(terms: Terms, sheet: &[u8]) -> Result<(), Fault>
     requires narrow { Narrow terms.form.width }
     requires inputs_le_nodes { terms.numbers.inputs ≤ terms.numbers.nodes }
     ensures { result ≡ (reading (due_of terms) sheet.now).ruling }
 {
-    let run = judge_fields(terms, sheet, Run::Head);
-    match run {
-        Run::Ended(ruling) => ruling,
-        // The walk ends with a ruling, and not before it.
-        Run::Head => Ruling::Sound,
-        Run::Fields(_) => Ruling::Sound,
+    let mut reader = begin(sheet);
+    let mut left = head_turn(terms, sheet, tell(reader))?;
+    reader = move_on(reader);
+    while let Some(next) = judge_field(terms, sheet, reader.at, tell(reader), left)? {
+        left = next;
+        reader = move_on(reader);
     }
+    Ok(())
 }
 
 // Loads a sheet of sound shape: each node's label and cut, and where its line stands; each root's mark, cut and table.

@@ -27,11 +27,9 @@ pub fn load_lines(
     ensures { LinesLoaded (due_of terms) sheet.now (line_arrays labels.old cuts.old places.old) result (line_arrays labels.new cuts.new places.new) }
 {
     let mut at = field_end(sheet, 0);
-    let mut v = 0;
-    while v < terms.numbers.nodes {
+    for v in 0..terms.numbers.nodes {
         let node = Node { id: v as u16 };
-        v += 1;
-        if v <= terms.numbers.inputs {
+        if v < terms.numbers.inputs {
             put_no_line(sheet, node, labels, cuts, places);
         } else {
             put_line(terms, sheet, at, node, labels, cuts, places);
@@ -82,10 +80,8 @@ pub fn load_luts(
         at: start,
         left: small_at(sheet, DEPTH_AT + width, width),
     };
-    let mut v = 0;
-    while v < terms.numbers.nodes {
+    for v in 0..terms.numbers.nodes {
         let node = Node { id: v as u16 };
-        v += 1;
         if next_root(terms, sheet, turn).id != node.id {
             put_no_lut(sheet, node, luts, cuts, tables);
         } else {

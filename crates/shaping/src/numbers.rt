@@ -48,16 +48,12 @@ pub fn ids_rise(sheet: &[u8], at: usize, width: usize, count: usize) -> bool
     ensures { result ≡ rising (ids_at sheet.now at width count) }
 {
     let mut before = node_at(sheet, at, width);
-    let mut next = at + width;
-    let mut left = count - 1;
-    while 0 < left {
-        let node = node_at(sheet, next, width);
+    for i in 1..count {
+        let node = node_at(sheet, at + i * width, width);
         if node.id <= before.id {
             return false;
         }
         before = node;
-        next += width;
-        left -= 1;
     }
     true
 }

@@ -16,8 +16,7 @@ pub fn paths_use(sheet: &[u8], at: usize, width: usize, count: usize, end: usize
     ensures { result ≡ paths_use sheet.now at width count end }
 {
     let mut next = at;
-    let mut left = count;
-    while 0 < left {
+    for _ in 0..count {
         if end - next < width {
             return false;
         }
@@ -26,7 +25,6 @@ pub fn paths_use(sheet: &[u8], at: usize, width: usize, count: usize, end: usize
             return false;
         }
         next += size;
-        left -= 1;
     }
     next == end
 }
@@ -38,8 +36,7 @@ pub fn paths_in_range(sheet: &[u8], at: usize, width: usize, count: usize, nodes
     ensures { result ≡ not (some_empty (paths_at sheet.now at width count) || some_from nodes (joined (paths_at sheet.now at width count))) }
 {
     let mut next = at;
-    let mut left = count;
-    while 0 < left {
+    for _ in 0..count {
         let size = small_at(sheet, next, width);
         if size == 0 {
             return false;
@@ -48,7 +45,6 @@ pub fn paths_in_range(sheet: &[u8], at: usize, width: usize, count: usize, nodes
             return false;
         }
         next = next + width + size * width;
-        left -= 1;
     }
     true
 }

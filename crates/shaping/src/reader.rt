@@ -4,7 +4,7 @@ ghost use Rattle.std.specs.Prelude.{◌≡◌, ◌≤◌, length};
 ghost use Rattle.sheet.specs.paper.Shape.{end_at};
 ghost use Rattle.shaping.specs.Fields.{field_at};
 
-use crate::fields::{Field, field_at, field_end};
+use crate::fields::{Front, field_at, field_end};
 
 #[derive(Clone, Copy)]
 pub struct Reader<'a> {
@@ -20,7 +20,7 @@ pub fn begin<'a>(sheet: &'a [u8]) -> Reader<'a>
 }
 
 // The tag and the value's length of the field that the reader stands at.
-pub fn tell<'a>(r: Reader<'a>) -> Field
+pub fn tell<'a>(r: Reader<'a>) -> Option<Front>
     requires { r.at ≤ length r.sheet.now }
     ensures { result ≡ field_at r.entry.sheet.now r.entry.at }
 {

@@ -40,10 +40,8 @@ fn put_list(sheet: &[u8], at: usize, width: usize, size: CutSize, cuts: &mut [u1
     ensures { Filled cuts.old (7 * node.id) (7 * node.id + 7) (λ i. get_or (counted (ids_at sheet.now at width size.leaves)) (i - 7 * node.id) 0) cuts.new }
 {
     let base = PLACES * (node.id as usize);
-    let mut i = 0;
-    while i < PLACES {
+    for i in 0..PLACES {
         cuts[base + i] = list_place(sheet, at, width, size, i);
-        i += 1;
     }
 }
 
@@ -98,7 +96,8 @@ pub fn put_no_lut(sheet: &[u8], node: Node, luts: &mut [u8], cuts: &mut [u16], t
     put_list(sheet, 0, ID_SIZE, CutSize { leaves: 0 }, cuts, node);
 }
 
-// A root's entries, of its LUT at `at`.
+// A root's entries, of its LUT at `at`. What it shares with `put_line` is `put_list`; one function would need a trait for two pairs of types,
+// which is no plainer.
 pub fn put_lut(
     terms: Terms,
     sheet: &[u8],

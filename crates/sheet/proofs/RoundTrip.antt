@@ -1,4 +1,5 @@
 -- What `encode` gives for a sheet in shape reads back as that sheet, field by field.
+use Rattle.std.specs.Prelude.{Ok, Err}
 use Prim.Native.Nat.{ℕ, ◌+◌, ◌*◌, ◌-◌, ◌^◌, ◌<◌}
 use native.Mathlib.Omega.{arith}
 use mathlib.Core.Path.{◌≡◌, ap, sym, ◌∙◌}
@@ -9,8 +10,7 @@ use lib.ListN.{length, length-append}
 use lib.Dec.{ltb, eqb}
 use Rattle.drawing.specs.paper.Bytes.{number_at, length_at, value_at}
 use Rattle.sheet.specs.declared.Fault.TheVariants.{Extra}
-use Rattle.sheet.specs.declared.Ruling.{Ruling}
-use Rattle.sheet.specs.declared.Ruling.TheVariants.{Sound, Faulty}
+use Rattle.sheet.specs.paper.Shape.{Ruling}
 use Rattle.sheet.specs.paper.Sheet.{Line, Lut, Sheet, line_of, lut_of}
 use Rattle.sheet.specs.paper.Encoding.{digits, byte, leaves_bytes, path_bytes, head_field, line_value, line_field, lut_value, lut_field, encode}
 use Rattle.sheet.specs.paper.Shape.{Due, end_at, paths_at, paths_use, head_range, line_range, lut_range, depth_at}
@@ -41,7 +41,7 @@ module _ (due : Due) (s : List ℕ) where
   -- a field of its kind stands at a place: what is read there, its ruling, and where it ends
   record LineStands (at : ℕ) (line : Line) : Type 0 where
     read : line_at due s at ≡ line
-    ruled : line_ruling due s at ≡ Sound
+    ruled : line_ruling due s at ≡ Ok tt
     end : end_at s at ≡ at + length (line_field due.form line)
 
   line_stands : (at : ℕ) (line : Line) → LineShaped due line → Stands s at (line_field due.form line) → LineStands at line
@@ -88,7 +88,7 @@ module _ (due : Due) (s : List ℕ) where
 
   record LutStands (least at : ℕ) (lut : Lut) : Type 0 where
     read : lut_at due s at ≡ lut
-    ruled : lut_ruling due s least at ≡ Sound
+    ruled : lut_ruling due s least at ≡ Ok tt
     end : end_at s at ≡ at + length (lut_field due.form lut)
 
   lut_stands : (least at : ℕ) (lut : Lut) → LutShaped due least lut → Stands s at (lut_field due.form lut) → LutStands least at lut
@@ -123,7 +123,7 @@ module _ (due : Due) (s : List ℕ) where
   record HeadStands (depth luts : ℕ) : Type 0 where
     deep : depth_at due s ≡ depth
     counted : count_at due s ≡ luts
-    ruled : head_ruling due s ≡ Sound
+    ruled : head_ruling due s ≡ Ok tt
     end : end_at s 0 ≡ length (head_field due.form depth luts)
 
   head_stands : (depth luts : ℕ) → head_range due 1 depth luts ≡ false → depth < 256 ^ due.form.width → luts < 256 ^ due.form.width →
@@ -156,9 +156,9 @@ module _ (due : Due) (s : List ℕ) where
       }
 
   lines_stand : (at : ℕ) (lines : List Line) → LinesShaped due lines → Stands s at (flat_map (line_field due.form) lines) →
-      lines_from due s (length lines) at ≡ record { read = lines; ruling = Sound; next = at + length (flat_map (line_field due.form) lines) }
+      lines_from due s (length lines) at ≡ record { read = lines; ruling = Ok tt; next = at + length (flat_map (line_field due.form) lines) }
   unfolding lines_from flat_map
-  lines_stand at [] shaped st = λ i. record { read = []; ruling = Sound; next = none i }
+  lines_stand at [] shaped st = λ i. record { read = []; ruling = Ok tt; next = none i }
     where
       none : at ≡ at + 0
       none = omega arith
@@ -170,12 +170,12 @@ module _ (due : Due) (s : List ℕ) where
       omega (arith, here.end, length-append (line_field due.form line) rest) in
       ap (λ (r : Ruling). and_field r (line_at due s at) at (lines_from due s (length lines) (end_at s at))) here.ruled
       ∙ (λ i. record { read = here.read i ∷ (there i).read; ruling = (there i).ruling; next = (there i).next })
-      ∙ (λ i. record { read = line ∷ lines; ruling = Sound; next = last i })
+      ∙ (λ i. record { read = line ∷ lines; ruling = Ok tt; next = last i })
 
   luts_stand : (least at : ℕ) (luts : List Lut) → LutsShaped due least luts → Stands s at (flat_map (lut_field due.form) luts) →
-      luts_from due s (length luts) least at ≡ record { read = luts; ruling = Sound; next = at + length (flat_map (lut_field due.form) luts) }
+      luts_from due s (length luts) least at ≡ record { read = luts; ruling = Ok tt; next = at + length (flat_map (lut_field due.form) luts) }
   unfolding luts_from flat_map
-  luts_stand least at [] shaped st = λ i. record { read = []; ruling = Sound; next = none i }
+  luts_stand least at [] shaped st = λ i. record { read = []; ruling = Ok tt; next = none i }
     where
       none : at ≡ at + 0
       none = omega arith
@@ -186,28 +186,28 @@ module _ (due : Due) (s : List ℕ) where
       let last : end_at s at + length rest ≡ at + length (lut_field due.form lut ++ rest) =
       omega (arith, here.end, length-append (lut_field due.form lut) rest) in
       ap (λ (r : Ruling). and_field r (lut_at due s at) at (luts_from due s (length luts) ((lut_at due s at).root + 1) (end_at s at))) here.ruled
-      ∙ (λ i. and_field Sound (here.read i) at (luts_from due s (length luts) ((here.read i).root + 1) (end_at s at)))
+      ∙ (λ i. and_field (Ok tt) (here.read i) at (luts_from due s (length luts) ((here.read i).root + 1) (end_at s at)))
       ∙ (λ i. record { read = lut ∷ (there i).read; ruling = (there i).ruling; next = (there i).next })
-      ∙ (λ i. record { read = lut ∷ luts; ruling = Sound; next = last i })
+      ∙ (λ i. record { read = lut ∷ luts; ruling = Ok tt; next = last i })
 
   -- the three parts together
   assembled : (sheet : Sheet) {lines_end luts-end : ℕ} → HeadStands sheet.depth (length sheet.luts) →
-      lines_from due s (due.nodes - due.inputs) (end_at s 0) ≡ record { read = sheet.lines; ruling = Sound; next = lines_end } →
-      luts_from due s (length sheet.luts) due.inputs lines_end ≡ record { read = sheet.luts; ruling = Sound; next = luts-end } →
-      ltb luts-end (length s) ≡ false → reading due s ≡ record { sheet = sheet; ruling = Sound }
+      lines_from due s (due.nodes - due.inputs) (end_at s 0) ≡ record { read = sheet.lines; ruling = Ok tt; next = lines_end } →
+      luts_from due s (length sheet.luts) due.inputs lines_end ≡ record { read = sheet.luts; ruling = Ok tt; next = luts-end } →
+      ltb luts-end (length s) ≡ false → reading due s ≡ record { sheet = sheet; ruling = Ok tt }
   unfolding reading
   assembled sheet {lines_end} {luts-end} head lines luts done =
-      let read : Fields Line = record { read = sheet.lines; ruling = Sound; next = lines_end } in
+      let read : Fields Line = record { read = sheet.lines; ruling = Ok tt; next = lines_end } in
       ap (after_head due s) head.ruled
       ∙ ap (λ (l : Fields Line). after_lines due s l.ruling l) lines
       ∙ ap (λ (n : ℕ). after_luts due s (luts_from due s n due.inputs lines_end).ruling read (luts_from due s n due.inputs lines_end)) head.counted
       ∙ ap (λ (l : Fields Lut). after_luts due s l.ruling read l) luts
       ∙ (λ i. record {
         sheet = record { depth = head.deep i; lines = sheet.lines; luts = sheet.luts };
-        ruling = cond (done i) (Faulty (Extra luts-end)) Sound;
+        ruling = cond (done i) (Err (Extra luts-end)) (Ok tt);
       })
 
-pub reads_back : (due : Due) (sheet : Sheet) → Shaped due sheet → reading due (encode due.form sheet) ≡ record { sheet = sheet; ruling = Sound }
+pub reads_back : (due : Due) (sheet : Sheet) → Shaped due sheet → reading due (encode due.form sheet) ≡ record { sheet = sheet; ruling = Ok tt }
 unfolding encode
 reads_back due sheet shaped =
     let s = encode due.form sheet in

@@ -1,4 +1,5 @@
 -- Bytes that stand somewhere in a sheet, and what is read there: numbers, ids, paths, a field.
+use Rattle.std.specs.Prelude.{Ok}
 use Prim.Native.Nat.{ℕ, ◌+◌, ◌*◌, ◌-◌, ◌^◌, ◌<◌, ◌≤◌}
 use native.Mathlib.Nat.{add-zero}
 use native.Mathlib.Omega.{arith}
@@ -10,7 +11,6 @@ use lib.ListN.{length, get_or, take, drop, length-append, length-drop}
 use lib.Seq.{drop-drop, drop-append_seam, take_at, get_or-drop}
 use Rattle.drawing.specs.paper.Rules.{first}
 use Rattle.drawing.specs.paper.Bytes.{high_first, number_at, tag_at, length_at, value_at, ids_at}
-use Rattle.sheet.specs.declared.Ruling.TheVariants.{Sound}
 use Rattle.sheet.specs.paper.Encoding.{digits, id_bytes, path_bytes, field}
 use Rattle.sheet.specs.paper.Shape.{field_rules, end_at, path_end, paths_at, paths_use}
 use Rattle.sheet.specs.Shape.{Below}
@@ -121,6 +121,6 @@ field_stands s at tag value short st =
     }
 
 pub field_sound : {s : List ℕ} {at tag : ℕ} {value : List ℕ} {length-wrong out_of_range : Bool} → FieldStands s at tag value →
-    length-wrong ≡ false → out_of_range ≡ false → first Sound (field_rules s at tag length-wrong out_of_range) ≡ Sound
+    length-wrong ≡ false → out_of_range ≡ false → first (Ok tt) (field_rules s at tag length-wrong out_of_range) ≡ Ok tt
 field_sound {s} {at} {tag} {value} f right ranged =
     rw (le-ltb (length s - at) 3 f.begun, eq-eqb (tag_at s at) tag f.tagged, le-ltb (length s - value_at at) (length_at s at) (omega (arith, f.long, f.inside)), right, ranged)

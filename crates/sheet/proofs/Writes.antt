@@ -12,47 +12,51 @@ use Rattle.sheet.specs.paper.Encoding.{digits, field}
 use Rattle.sheet.specs.Writing.{Room, Written, Closed, opened}
 use Rattle.sheet.proofs.Numbers.{length_digits, rest_more, flat_more}
 
--- What the loop over a number's bytes keeps, which stores the low byte first: the last i of the bytes stand.
-pub record LowStored (before : List ℕ) (at number width : ℕ) (sheet : List ℕ) (rest i : ℕ) : Type 0 where
-  pub passed : i ≤ width
+-- What the loop over a number's bytes keeps, which stores the low byte first: the bytes from `place` on stand.
+pub record LowStored (before : List ℕ) (at number width : ℕ) (sheet : List ℕ) (rest place : ℕ) : Type 0 where
   pub room : at + width ≤ length sheet
   pub size : length sheet ≡ length before
-  pub left : rest ≡ number / 256 ^ i
-  pub stored : sheet ≡ sets before (at + (width - i)) (digits i number)
+  pub left : rest ≡ number / 256 ^ (width - place)
+  pub stored : sheet ≡ sets before (at + place) (digits (width - place) number)
 
-pub low_none : (before : List ℕ) (at number width : ℕ) → Room before at (digits width number) → LowStored before at number width before number 0
+pub low_none : (before : List ℕ) (at number width : ℕ) → Room before at (digits width number) → LowStored before at number width before number width
 unfolding digits
 low_none before at number width room =
-    record { passed = omega arith; room = omega (arith, length_digits width number); size = refl; left = sym (div-one number); stored = refl }
-
-pub low_more : {before : List ℕ} {at number width : ℕ} {sheet : List ℕ} {rest i : ℕ} → LowStored before at number width sheet rest i → i < width →
-    LowStored before at number width (set sheet (at + (width - 1 - i)) (rest % 256)) (rest / 256) (i + 1)
-unfolding digits
-low_more {before} {at} {number} {width} {sheet} {rest} {i} low more =
-    let place = at + (width - 1 - i) in
-    let behind : at + (width - i) ≡ suc place = omega arith in
-    let here : at + (width - (i + 1)) ≡ place = omega arith in
+    let none : width - width ≡ 0 = omega arith in
     record {
-      passed = omega arith;
-      room = simp length-set low.room;
-      size = length-set sheet place (rest % 256) ∙ low.size;
-      left = ap (λ (m : ℕ). m / 256) low.left ∙ rest_more number i;
-      stored =
-          ap (λ (m : List ℕ). set m place (rest % 256)) low.stored
-          ∙ ap (λ (m : ℕ). set (sets before m (digits i number)) place (rest % 256)) behind
-          ∙ set_sets before place (rest % 256) (suc place) (digits i number) (omega arith)
-          ∙ ap (λ (m : ℕ). sets (set before place (m % 256)) (suc place) (digits i number)) low.left
-          ∙ ap (λ (m : ℕ). sets before place (digits m number)) (sym (add-one i))
-          ∙ ap (λ (m : ℕ). sets before m (digits (i + 1) number)) (sym here);
+      room = omega (arith, length_digits width number);
+      size = refl;
+      left = sym (div-one number) ∙ ap (λ (m : ℕ). number / 256 ^ m) (sym none);
+      stored = ap (λ (m : ℕ). sets before (at + width) (digits m number)) (sym none);
     }
 
-pub low_all : {before : List ℕ} {at number width : ℕ} {sheet : List ℕ} {rest i : ℕ} → LowStored before at number width sheet rest i → width ≤ i →
-    Written before at (digits width number) sheet (at + width)
-low_all {before} {at} {number} {width} {sheet} {rest} {i} low done =
-    let all : i ≡ width = omega (arith, low.passed) in
-    let start : at + (width - i) ≡ at = omega arith in
+pub low_more : {before : List ℕ} {at number width : ℕ} {sheet : List ℕ} {rest place : ℕ} → LowStored before at number width sheet rest place →
+    0 < place → place ≤ width → LowStored before at number width (set sheet (at + (place - 1)) (rest % 256)) (rest / 256) (place - 1)
+unfolding digits
+low_more {before} {at} {number} {width} {sheet} {rest} {place} low more inside =
+    let here = at + (place - 1) in
+    let i = width - place in
+    let behind : at + place ≡ suc here = omega arith in
+    let one_more : width - (place - 1) ≡ suc i = omega arith in
     record {
-      stored = low.stored ∙ ap (λ (m : ℕ). sets before m (digits i number)) start ∙ ap (λ (m : ℕ). sets before at (digits m number)) all;
+      room = simp length-set low.room;
+      size = length-set sheet here (rest % 256) ∙ low.size;
+      left = ap (λ (m : ℕ). m / 256) low.left ∙ rest_more number i ∙ ap (λ (m : ℕ). number / 256 ^ m) (add-one i ∙ sym one_more);
+      stored =
+          ap (λ (m : List ℕ). set m here (rest % 256)) low.stored
+          ∙ ap (λ (m : ℕ). set (sets before m (digits i number)) here (rest % 256)) behind
+          ∙ set_sets before here (rest % 256) (suc here) (digits i number) (omega arith)
+          ∙ ap (λ (m : ℕ). sets (set before here (m % 256)) (suc here) (digits i number)) low.left
+          ∙ ap (λ (m : ℕ). sets before here (digits m number)) (sym one_more);
+    }
+
+pub low_all : {before : List ℕ} {at number width : ℕ} {sheet : List ℕ} {rest place : ℕ} → place ≡ 0 → LowStored before at number width sheet rest place →
+    Written before at (digits width number) sheet (at + width)
+low_all {before} {at} {number} {width} {place = place} done low =
+    let start : at + place ≡ at = omega (arith, done) in
+    let all : width - place ≡ width = omega (arith, done) in
+    record {
+      stored = low.stored ∙ ap (λ (m : ℕ). sets before m (digits (width - place) number)) start ∙ ap (λ (m : ℕ). sets before at (digits m number)) all;
       reached = omega (arith, length_digits width number);
     }
 

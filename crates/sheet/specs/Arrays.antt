@@ -1,9 +1,8 @@
 -- A sheet in arrays: a line's label and cut a node, where its field stands, and the LUT of each root.
-use Rattle.std.specs.Prelude.{ℕ, ◌*◌, ◌≤◌, ◌<◌, ◌≡◌, List, length, get_or}
+use Rattle.std.specs.Prelude.{ℕ, ◌*◌, ◌≤◌, ◌<◌, ◌≡◌, List, length, get_or, Ok}
 use Rattle.theory.specs.paper.Values.{bit}
 use Rattle.storage.specs.Lists.{size_at, list_at}
 use Rattle.drawing.specs.paper.Limits.{most_k}
-use Rattle.sheet.specs.declared.Ruling.TheVariants.{Sound}
 use Rattle.sheet.specs.paper.Sheet.{Line, Lut}
 use Rattle.sheet.specs.paper.Shape.{Due, line_at, line_ruling}
 use Rattle.sheet.specs.paper.Rules.{line_of_node, is_listed, leaves_listed, table_listed}
@@ -20,7 +19,7 @@ pub record HoldsLines (inputs nodes : ℕ) (lines : List Line) (labels cuts : Li
 pub record HoldsPlaces (due : Due) (s : List ℕ) (lines : List Line) (places : List ℕ) : Type 0 where
   pub long : due.nodes ≤ length places
   pub line : (v : ℕ) → due.inputs ≤ v → v < due.nodes → line_at due s (get_or places v 0) ≡ line_of_node due.inputs lines v
-  pub sound : (v : ℕ) → due.inputs ≤ v → v < due.nodes → line_ruling due s (get_or places v 0) ≡ Sound
+  pub sound : (v : ℕ) → due.inputs ≤ v → v < due.nodes → line_ruling due s (get_or places v 0) ≡ Ok tt
 
 -- Every root is marked, and has its LUT's leaves and table.
 pub record HoldsLuts (nodes : ℕ) (luts : List Lut) (roots cuts tables : List ℕ) : Type 0 where

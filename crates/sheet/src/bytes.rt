@@ -14,12 +14,9 @@ pub fn put_number(sheet: &mut [u8], at: usize, number: u64, width: usize) -> usi
     ensures { Written sheet.old at (digits width number) sheet.new result }
 {
     let mut rest = number;
-    let mut i = 0;
-    while i < width {
-        let place = width - 1 - i;
+    for place in (0..width).rev() {
         sheet[at + place] = (rest % 256) as u8;
-        rest = rest / 256;
-        i += 1;
+        rest /= 256;
     }
     at + width
 }
@@ -38,10 +35,8 @@ pub fn put_ids(
     ensures { Written sheet.old at (id_bytes width (part ids.now from count)) sheet.new result }
 {
     let mut next = at;
-    let mut i = 0;
-    while i < count {
-        next = put_number(sheet, next, ids[from + i] as u64, width);
-        i += 1;
+    for &id in &ids[from..from + count] {
+        next = put_number(sheet, next, id as u64, width);
     }
     next
 }

@@ -20,10 +20,10 @@ pub fn place_of_fault(f: Fault) -> u64
     ensures { result ≡ place f }
 {
     match f {
-        Fault::Torn(at) => at as u64,
-        Fault::Tag(at) => at as u64,
-        Fault::Length(at) => at as u64,
-        Fault::Range(at) => at as u64,
-        Fault::Extra(at) => at as u64,
+        Fault::Torn(at)
+        | Fault::Tag(at)
+        | Fault::Length(at)
+        | Fault::Range(at)
+        | Fault::Extra(at) => at as u64,
     }
 }

@@ -34,13 +34,6 @@ pub enum Fault {
     Extra(usize),
 }
 
-// The ruling on one field of a sheet, or on all of it.
-#[derive(Clone, Copy)]
-pub enum Ruling {
-    Sound,
-    Faulty(Fault),
-}
-
 // The paper's form: ids of one byte.
 pub fn narrow_form() -> Form
     ensures { result ≡ narrow }

@@ -1,6 +1,6 @@
 -- The three demands of the minutes, over the promises of `map` (`Maps`) and `inspect` (`Inspects`) and the words of document 01. That a reply is
 -- given at all, and the run ends, is the kit's part: both functions are proved to end with a reply that their promise allows, for all bytes.
-use Rattle.std.specs.Prelude.{ℕ, ◌≤◌, ◌<◌, ◌≡◌, ◌↔◌, List, length, take, drop, Err}
+use Rattle.std.specs.Prelude.{ℕ, ◌≤◌, ◌<◌, ◌≡◌, ◌↔◌, List, length, take, drop, Ok, Err}
 use Rattle.theory.specs.paper.Net.{Gate}
 use Rattle.theory.specs.paper.Walk.{Loop, LowestLoop}
 use Rattle.theory.specs.paper.Cover.{Label}
@@ -12,7 +12,6 @@ use Rattle.drawing.specs.paper.Reading.{found, table_of, sources_of, roots_of}
 use Rattle.walking.specs.paper.Loops.{loop_number}
 use Rattle.taking.specs.paper.Taken.{drawn, ReadsWhole, IsTaken}
 use Rattle.sheet.specs.declared.Fault.{Fault}
-use Rattle.sheet.specs.declared.Ruling.TheVariants as ruling
 use Rattle.sheet.specs.paper.Limits.{sheet_room, longest_sheet}
 use Rattle.sheet.specs.paper.Sheet.{Sheet}
 use Rattle.sheet.specs.paper.Encoding.{narrow, encode}
@@ -34,7 +33,7 @@ SomeLoop s = (g : ℕ) × (Gate (drawn s) g × Loop (drawn s) g)
 
 -- these bytes read as this sheet, for the table
 abbrev pub ReadsAs : (s t : List ℕ) → Sheet → Type 0
-ReadsAs s t sheet = reading (due_in s) t ≡ record { sheet = sheet; ruling = ruling.Sound }
+ReadsAs s t sheet = reading (due_in s) t ≡ record { sheet = sheet; ruling = Ok tt }
 
 -- What two replies of the mapper to one table and one buffer have in common: number and place, and the buffer, where it refuses; else the sheet
 -- but for its evidence.
@@ -73,8 +72,8 @@ Demand1 = (s before : List ℕ) (r : Reply) (after : List ℕ) → Maps s before
 pub data InspectorRefuses (s t : List ℕ) : ℕ × ℕ → Type 0 where
   faulty : {x : Refusal} → (found s).verdict ≡ Err x → InspectorRefuses s t (table.said x)
   loop : {g : ℕ} → ReadsWhole s → LowestLoop (drawn s) g → InspectorRefuses s t (loop_number, g)
-  misshapen : {f : Fault} → IsTaken s → (reading (due_in s) t).ruling ≡ ruling.Faulty f → InspectorRefuses s t (shape.said f)
-  broken : {rule : Rule} → IsTaken s → (reading (due_in s) t).ruling ≡ ruling.Sound → FirstBroken (KeepsIn s t) (rules_in s t) (Found.broken rule) →
+  misshapen : {f : Fault} → IsTaken s → (reading (due_in s) t).ruling ≡ Err f → InspectorRefuses s t (shape.said f)
+  broken : {rule : Rule} → IsTaken s → (reading (due_in s) t).ruling ≡ Ok tt → FirstBroken (KeepsIn s t) (rules_in s t) (Found.broken rule) →
       InspectorRefuses s t (inspection.said (reply_of (sheet_in s t).depth (Found.broken rule)))
 
 pub record InspectorReplies (s t : List ℕ) (r : Inspection) : Type 0 where

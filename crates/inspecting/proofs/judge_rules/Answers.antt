@@ -34,39 +34,39 @@ judge_last-requires c =
     (record { luts = omega (arith, most); cuts = omega (arith, most); tables = omega (arith, most) })
     (omega (arith, most))
 
-pub returns-in-Cut : goal.returns-in-Cut
-returns-in-Cut c =
+pub returns-in-Err-Cut : goal.returns-in-Err-Cut
+returns-in-Err-Cut c =
     let most = c.requires.laid.most in
     gates_cut c.requires (λ i. omega (arith, c.type_inv.sheet i))
     (rw c.terms_for.ensures at c.load_sheet-head.ensures)
     (record { labels = omega (arith, most); cuts = omega (arith, most); places = omega (arith, most) })
     (record { luts = omega (arith, most); cuts = omega (arith, most); tables = omega (arith, most) }) _
-    c.judge_lines-second.ensures c.in-Cut.is
+    c.judge_lines-second.ensures c.in-Err-Cut.is (rw c.in-Err-Cut.is at c.in-Err-Cut.field-0-is)
 
-pub returns-in-Label : goal.returns-in-Label
-returns-in-Label c =
+pub returns-in-Err-Label : goal.returns-in-Err-Label
+returns-in-Err-Label c =
     let most = c.requires.laid.most in
     gates_label c.requires (λ i. omega (arith, c.type_inv.sheet i))
     (rw c.terms_for.ensures at c.load_sheet-head.ensures)
     (record { labels = omega (arith, most); cuts = omega (arith, most); places = omega (arith, most) })
     (record { luts = omega (arith, most); cuts = omega (arith, most); tables = omega (arith, most) }) _
-    c.judge_lines-second.ensures c.in-Label.is
+    c.judge_lines-second.ensures c.in-Err-Label.is (rw c.in-Err-Label.is at c.in-Err-Label.field-0-is)
 
-pub returns-in-Paths : goal.returns-in-Paths
-returns-in-Paths c =
+pub returns-in-Err-Paths : goal.returns-in-Err-Paths
+returns-in-Err-Paths c =
     let most = c.requires.laid.most in
     gates_paths c.requires (λ i. omega (arith, c.type_inv.sheet i))
     (rw c.terms_for.ensures at c.load_sheet-head.ensures)
     (record { labels = omega (arith, most); cuts = omega (arith, most); places = omega (arith, most) })
     (record { luts = omega (arith, most); cuts = omega (arith, most); tables = omega (arith, most) }) _
-    c.judge_lines-second.ensures c.in-Paths.is
+    c.judge_lines-second.ensures c.in-Err-Paths.is (rw c.in-Err-Paths.is at c.in-Err-Paths.field-0-is)
 
-pub returns-in-Kept : goal.returns-in-Kept
-returns-in-Kept c =
+pub returns-in-Ok : goal.returns-in-Ok
+returns-in-Ok c =
     let most = c.requires.laid.most in
     gates_kept c.requires (λ i. omega (arith, c.type_inv.sheet i))
     (rw c.terms_for.ensures at c.load_sheet-head.ensures)
     (record { labels = omega (arith, most); cuts = omega (arith, most); places = omega (arith, most) })
     (record { luts = omega (arith, most); cuts = omega (arith, most); tables = omega (arith, most) }) _
-    c.judge_lines-second.ensures c.in-Kept.is
+    c.judge_lines-second.ensures c.in-Ok.is
     c.judge_last.ensures

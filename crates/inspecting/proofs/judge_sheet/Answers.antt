@@ -5,8 +5,8 @@ use Rattle.storage.proofs.Drawings.{drawn_span}
 use Rattle.inspecting.specs.Holding.{SheetRuled}
 use Rattle.inspecting.proofs.judge_sheet.Goals as goal
 
-pub judge_shape-shape-requires : goal.judge_shape-shape-requires
-judge_shape-shape-requires c =
+pub judge_shape-requires : goal.judge_shape-requires
+judge_shape-requires c =
     rw c.terms_for.ensures record { narrow = record { some = omega arith; few = omega arith }; inputs_le_nodes = drawn_span c.requires.drawing.drawn }
 
 pub judge_rules-requires : goal.judge_rules-requires
@@ -14,12 +14,12 @@ judge_rules-requires c =
     record {
       laid = c.requires;
       sound =
-          sym (rw c.terms_for.ensures at c.judge_shape-shape.ensures)
-          ∙ c.in-Sound.is;
+          sym (rw c.terms_for.ensures at c.judge_shape.ensures)
+          ∙ c.in-Ok.is;
     }
 
-pub returns-in-Faulty : goal.returns-in-Faulty
-returns-in-Faulty c =
+pub returns-in-Err : goal.returns-in-Err
+returns-in-Err c =
     SheetRuled.faulty
-    (sym (rw c.terms_for.ensures at c.judge_shape-shape.ensures)
-    ∙ c.in-Faulty.is)
+    (sym (rw c.terms_for.ensures at c.judge_shape.ensures)
+    ∙ c.in-Err.is)

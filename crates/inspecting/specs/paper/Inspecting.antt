@@ -1,6 +1,6 @@
 -- What the inspector says of a gate table's bytes and a sheet's: "first replies 1 to 7 for a bad gate table. Then four passes: shape, gates
 -- rising, LUTs rising, whole."
-use Rattle.std.specs.Prelude.{ℕ, ◌≡◌, Err}
+use Rattle.std.specs.Prelude.{ℕ, ◌≡◌, Ok, Err}
 use mathlib.Core.List.{List, Memᴰ}
 use Rattle.theory.specs.paper.Walk.{LowestLoop}
 use Rattle.storage.specs.declared.Node.{Node}
@@ -12,7 +12,6 @@ use Rattle.drawing.specs.paper.Reading.{found, table_of, nodes_of, sources_of, r
 use Rattle.walking.specs.paper.Loops.{loop_number}
 use Rattle.taking.specs.paper.Taken.{drawn, ReadsWhole, IsTaken}
 use Rattle.sheet.specs.declared.Fault.{Fault}
-use Rattle.sheet.specs.declared.Ruling.TheVariants as ruling
 use Rattle.sheet.specs.paper.Limits.{most_depth}
 use Rattle.sheet.specs.paper.Sheet.{Sheet}
 use Rattle.sheet.specs.paper.Encoding.{narrow}
@@ -73,12 +72,12 @@ module _ (s t : List ℕ) where
     refused : {x : Refusal} → (found s).verdict ≡ Err x → Inspects (Refused x)
     loop : {g : Node} → ReadsWhole s → LowestLoop (drawn s) g.id → Inspects (LoopAt g)
     -- 21 to 24, and 31
-    faulty : {f : Fault} → IsTaken s → (reading (due_in s) t).ruling ≡ ruling.Faulty f → Inspects (Shape f)
+    faulty : {f : Fault} → IsTaken s → (reading (due_in s) t).ruling ≡ Err f → Inspects (Shape f)
     -- 25 to 30
-    ruled : {x : Found} → IsTaken s → (reading (due_in s) t).ruling ≡ ruling.Sound → FirstBroken KeepsIn rules_in x → Inspects (reply_of sheet_in.depth x)
+    ruled : {x : Found} → IsTaken s → (reading (due_in s) t).ruling ≡ Ok tt → FirstBroken KeepsIn rules_in x → Inspects (reply_of sheet_in.depth x)
 
   -- A sheet of sound shape that keeps all the rules.
   pub record KeepsAll : Type 0 where
     pub taken : IsTaken s
-    pub sound : (reading (due_in s) t).ruling ≡ ruling.Sound
+    pub sound : (reading (due_in s) t).ruling ≡ Ok tt
     pub each : (rule : Rule) → Memᴰ rule rules_in → KeepsIn rule

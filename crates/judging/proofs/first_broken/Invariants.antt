@@ -1,5 +1,4 @@
 -- `first_broken` meets its contract: the gates before t keep their rules.
-use Prim.Native.Nat.{◌-◌}
 use Rattle.judging.specs.Gates.{lined_of}
 use Rattle.judging.proofs.Passes.{Trying}
 use Rattle.judging.proofs.first_broken.Given as goal
@@ -7,6 +6,3 @@ use Rattle.judging.proofs.first_broken.Given as goal
 abbrev pub invariant-loop-t : goal.invariant-loop-t
 invariant-loop-t l = Trying l.numbers.k.leaves l.numbers.inputs l.numbers.nodes l.fanins (lined_of l.form l.labels l.cuts l.places l.sheet)
     l.initial.roles l.t l.roles
-
-abbrev pub decreases-loop-t : goal.decreases-loop-t
-decreases-loop-t l = l.numbers.nodes - l.t

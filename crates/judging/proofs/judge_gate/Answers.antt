@@ -1,5 +1,4 @@
 -- `judge_gate` meets its contract: each test that fails names its rule.
-use native.Mathlib.Omega.{arith}
 use Rattle.judging.proofs.Judging.{cut_asked, peak_asked, label_asked, place_inside, paths_rule_asked}
 use Rattle.judging.proofs.Judging.{tried_cut, tried_label, tried_paths, tried_all}
 use Rattle.judging.proofs.judge_gate.Goals as goal
@@ -28,10 +27,6 @@ returns-then-not-keeps_label c =
 pub bounds-places-v : goal.bounds-places-v
 bounds-places-v c =
     place_inside c.requires
-
-pub overflow_cast-at : goal.overflow_cast-at
-overflow_cast-at c =
-    omega (arith, c.type_inv.places c.args.gate.id)
 
 pub keeps_paths-requires : goal.keeps_paths-requires
 keeps_paths-requires c =

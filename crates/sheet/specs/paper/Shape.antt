@@ -1,5 +1,5 @@
 -- The shape of a sheet: its bytes read field by field, by rules 21 to 24 and 31.
-use Rattle.std.specs.Prelude.{ℕ, zero, suc, ◌+◌, ◌*◌, ◌-◌, Bool, true, false, not, cond, ◌||◌, ◌&&◌, List, [], ◌∷◌, length, ltb, leb, eqb}
+use Rattle.std.specs.Prelude.{ℕ, zero, suc, ◌+◌, ◌*◌, ◌-◌, Bool, true, false, not, cond, ◌||◌, ◌&&◌, List, [], ◌∷◌, length, ltb, leb, eqb, Result, Ok, Err}
 use Rattle.theory.specs.paper.Evidence.{joined}
 use Rattle.drawing.specs.paper.Limits.{frame_size, version, rows_size}
 use Rattle.drawing.specs.paper.Rules.{Rule, ◌⇒◌, first}
@@ -7,8 +7,6 @@ use Rattle.drawing.specs.paper.Bytes.{tag_at, length_at, value_at, number_at, id
 use Rattle.sheet.specs.declared.Form.{Form}
 use Rattle.sheet.specs.declared.Fault.{Fault}
 use Rattle.sheet.specs.declared.Fault.TheVariants.{Torn, Tag, Length, Range, Extra}
-use Rattle.sheet.specs.declared.Ruling.{Ruling}
-use Rattle.sheet.specs.declared.Ruling.TheVariants.{Sound, Faulty}
 use Rattle.sheet.specs.paper.Limits.{version_size, depth_place, count_size}
 use Rattle.sheet.specs.paper.Sheet.{Line, Lut, Sheet, line_of, lut_of}
 
@@ -19,6 +17,10 @@ said (Tag at) = (22, at)
 said (Length at) = (23, at)
 said (Range at) = (24, at)
 said (Extra at) = (31, at)
+
+-- the ruling on a field of a sheet, or on all of it: it is sound, or has a fault
+abbrev pub Ruling : Type 0
+Ruling = Result (Unit {0}) Fault
 
 -- What a sheet is read for: its form, the greatest depth and label, and the table's K, I and n.
 pub record Due : Type 0 where
@@ -31,11 +33,11 @@ pub record Due : Type 0 where
 -- "Within a sheet field: fewer than 3 bytes, tag, value past the end, length, range"
 abbrev pub field_rules : (s : List ℕ) (at due : ℕ) (length-wrong out_of_range : Bool) → List (Rule Ruling)
 field_rules s at due length-wrong out_of_range =
-    (ltb (length s - at) frame_size ⇒ Faulty (Torn at))
-    ∷ (not (eqb (tag_at s at) due) ⇒ Faulty (Tag at))
-    ∷ (ltb (length s - value_at at) (length_at s at) ⇒ Faulty (Torn at))
-    ∷ (length-wrong ⇒ Faulty (Length at))
-    ∷ (out_of_range ⇒ Faulty (Range at))
+    (ltb (length s - at) frame_size ⇒ Err (Torn at))
+    ∷ (not (eqb (tag_at s at) due) ⇒ Err (Tag at))
+    ∷ (ltb (length s - value_at at) (length_at s at) ⇒ Err (Torn at))
+    ∷ (length-wrong ⇒ Err (Length at))
+    ∷ (out_of_range ⇒ Err (Range at))
     ∷ []
 
 -- where the value of the field at `at` ends
@@ -98,7 +100,7 @@ module _ (due : Due) where
 
     unfoldable pub head_ruling : Ruling
     head_ruling =
-        first Sound
+        first (Ok tt)
         (field_rules s 0 due.form.head (not (eqb (length_at s 0) (version_size + due.form.width + due.form.width)))
         (head_range (number_at s frame_size version_size) depth_at count_at))
 
@@ -132,7 +134,7 @@ module _ (due : Due) where
         || not (paths_use s (line_paths at + count_size) due.form.width (number_at s (line_paths at) count_size) (end_at s at)))
 
     unfoldable pub line_ruling : ℕ → Ruling
-    line_ruling at = first Sound (field_rules s at due.form.line (line_length_wrong at) (line_range (line_at at)))
+    line_ruling at = first (Ok tt) (field_rules s at due.form.line (line_length_wrong at) (line_range (line_at at)))
 
     -- a LUT's value: root, c and leaves, then 8 bytes of table
     abbrev pub lut_cut : ℕ → ℕ
@@ -145,7 +147,7 @@ module _ (due : Due) where
     lut_length_wrong at = ltb (end_at s at) (lut_cut at + count_size) || not (eqb (leaves_end (lut_cut at) + rows_size) (end_at s at))
 
     unfoldable pub lut_ruling : (least at : ℕ) → Ruling
-    lut_ruling least at = first Sound (field_rules s at due.form.lut (lut_length_wrong at) (lut_range least (lut_at at)))
+    lut_ruling least at = first (Ok tt) (field_rules s at due.form.lut (lut_length_wrong at) (lut_range least (lut_at at)))
 
 -- Fields of one kind read whole from some place on, the ruling on them, and where they end.
 pub record Fields (A : Type 0) : Type 0 where
@@ -154,18 +156,18 @@ pub record Fields (A : Type 0) : Type 0 where
   pub next : ℕ
 
 abbrev pub and_field : {A : Type 0} → Ruling → A → (at : ℕ) → Fields A → Fields A
-and_field Sound a at rest = record { read = a ∷ rest.read; ruling = rest.ruling; next = rest.next }
-and_field (Faulty f) a at rest = record { read = []; ruling = Faulty f; next = at }
+and_field (Ok tt) a at rest = record { read = a ∷ rest.read; ruling = rest.ruling; next = rest.next }
+and_field (Err f) a at rest = record { read = []; ruling = Err f; next = at }
 
 module _ (due : Due) (s : List ℕ) where
   -- "for each gate in id order": as many lines as gates are left
   unfoldable pub lines_from : (gates at : ℕ) → Fields Line
-  lines_from zero at = record { read = []; ruling = Sound; next = at }
+  lines_from zero at = record { read = []; ruling = Ok tt; next = at }
   lines_from (suc gates) at = and_field (line_ruling due s at) (line_at due s at) at (lines_from gates (end_at s at))
 
   -- "for each LUT, roots rising": as many as the head counts
   unfoldable pub luts_from : (luts least at : ℕ) → Fields Lut
-  luts_from zero least at = record { read = []; ruling = Sound; next = at }
+  luts_from zero least at = record { read = []; ruling = Ok tt; next = at }
   luts_from (suc luts) least at =
       and_field (lut_ruling due s least at) (lut_at due s at) at (luts_from luts ((lut_at due s at).root + 1) (end_at s at))
 
@@ -177,25 +179,25 @@ pub record Reading : Type 0 where
 module _ (due : Due) (s : List ℕ) where
   -- "bytes after the last LUT", "of the first surplus byte"
   abbrev pub after_luts : Ruling → Fields Line → Fields Lut → Reading
-  after_luts Sound lines luts =
+  after_luts (Ok tt) lines luts =
       record {
         sheet = record { depth = depth_at due s; lines = lines.read; luts = luts.read };
-        ruling = cond (ltb luts.next (length s)) (Faulty (Extra luts.next)) Sound;
+        ruling = cond (ltb luts.next (length s)) (Err (Extra luts.next)) (Ok tt);
       }
-  after_luts (Faulty f) lines luts =
-      record { sheet = record { depth = depth_at due s; lines = lines.read; luts = luts.read }; ruling = Faulty f }
+  after_luts (Err f) lines luts =
+      record { sheet = record { depth = depth_at due s; lines = lines.read; luts = luts.read }; ruling = Err f }
 
   abbrev pub after_lines : Ruling → Fields Line → Reading
-  after_lines Sound lines =
+  after_lines (Ok tt) lines =
       let luts = luts_from due s (count_at due s) due.inputs lines.next in
       after_luts luts.ruling lines luts
-  after_lines (Faulty f) lines = record { sheet = record { depth = depth_at due s; lines = lines.read; luts = [] }; ruling = Faulty f }
+  after_lines (Err f) lines = record { sheet = record { depth = depth_at due s; lines = lines.read; luts = [] }; ruling = Err f }
 
   abbrev pub after_head : Ruling → Reading
-  after_head Sound =
+  after_head (Ok tt) =
       let lines = lines_from due s (due.nodes - due.inputs) (end_at s 0) in
       after_lines lines.ruling lines
-  after_head (Faulty f) = record { sheet = record { depth = 0; lines = []; luts = [] }; ruling = Faulty f }
+  after_head (Err f) = record { sheet = record { depth = 0; lines = []; luts = [] }; ruling = Err f }
 
   unfoldable pub reading : Reading
   reading = after_head (head_ruling due s)

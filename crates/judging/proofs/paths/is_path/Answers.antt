@@ -37,12 +37,6 @@ returns-then-not-is_free c =
     path_refused a.inputs asked c.id_at-first.ensures
     (ap (λ (b : Bool). ltb v a.inputs && b) unfree ∙ and-false (ltb v a.inputs))
 
-pub take-requires : goal.take-requires
-take-requires c =
-    let a = c.args in
-    let asked = c.requires in
-    record { id_in_bounds = first_inside a.inputs asked c.id_at-first.ensures; id_value = sym c.is_free.ensures ∙ c.if-not-is_free.false }
-
 pub goes_on-requires : goal.goes_on-requires
 goes_on-requires c =
     let a = c.args in

@@ -4,36 +4,22 @@ use mathlib.Core.Path.{sym, ◌∙◌}
 use native.Mathlib.Omega.{arith}
 use borrow.Author.Tests.{eq-eqb, ne_eqb, not-true, not-false}
 use Rattle.drawing.specs.paper.Bytes.{length_at}
+use Rattle.std.proofs.lemmas.Result.{err_from_is_err_and}
 use Rattle.sheet.specs.paper.Shape.{head_ruling}
 use Rattle.shaping.specs.Terms.{due_of}
 use Rattle.shaping.specs.Fields.{head_length_wrong, head_out_of_range}
-use Rattle.shaping.proofs.Rulings.{frame_fits, frame_faulty, frame_sound}
-use mathlib.Core.Bool.{false}
+use Rattle.shaping.proofs.Rulings.{frame_faulty, frame_sound}
 use Rattle.shaping.proofs.fields.head_ruling.Goals as goal
 
-pub returns-in-Faulty : goal.returns-in-Faulty
+pub returns-in_err-frame : goal.returns-in_err-frame
 unfolding head_ruling
-returns-in-Faulty c =
+returns-in_err-frame c =
     let s = c.args.sheet.now in
     let due = due_of c.args.terms in
-    frame_faulty s 0 due.form.head (head_length_wrong due s) (head_out_of_range due s) c.frame-framed.ensures
-    c.in-Faulty.is
-
-pub length_at-requires : goal.length_at-requires
-length_at-requires c =
-    let s = c.args.sheet.now in
-    let due = due_of c.args.terms in
-    let inside =
-    frame_fits s 0 due.form.head false false c.frame-framed.ensures c.in_default.is in
-    omega (arith, inside)
-
-pub overflow_add-width : goal.overflow_add-width
-overflow_add-width c =
-    omega (arith, c.requires.narrow.few)
-
-pub overflow_add-width-2 : goal.overflow_add-width-2
-overflow_add-width-2 c =
-    omega (arith, c.requires.narrow.few)
+    let p = err_from_is_err_and c.from_residual.result c.from_residual.ensures.1 in
+    rw (p.1, p.2)
+    (frame_faulty s 0 due.form.head (head_length_wrong due s) (head_out_of_range due s) c.frame.ensures
+    c.in_err-frame.was)
 
 pub returns-then-length_at-width : goal.returns-then-length_at-width
 unfolding head_ruling
@@ -41,16 +27,8 @@ returns-then-length_at-width c =
     let s = c.args.sheet.now in
     let due = due_of c.args.terms in
     let w = due.form.width in
-    frame_sound s 0 due.form.head (head_length_wrong due s) (head_out_of_range due s) c.frame-framed.ensures
-    c.in_default.is (simp (ne_eqb (length_at s 0) (1 + w + w) (omega arith)))
-
-pub head_in_range-requires : goal.head_in_range-requires
-head_in_range-requires c =
-    let s = c.args.sheet.now in
-    let due = due_of c.args.terms in
-    let inside = frame_fits s 0 due.form.head false false c.frame-framed.ensures
-    c.in_default.is in
-    record { narrow = c.requires.narrow; inputs_le_nodes = c.requires.inputs_le_nodes; width_in_bounds = omega (arith, inside, c.length_at.ensures) }
+    frame_sound s 0 due.form.head (head_length_wrong due s) (head_out_of_range due s) c.frame.ensures
+    c.in_ok-frame.was (simp (ne_eqb (length_at s 0) (1 + w + w) (omega arith)))
 
 pub returns-then-not-head_in_range : goal.returns-then-not-head_in_range
 unfolding head_ruling
@@ -58,8 +36,8 @@ returns-then-not-head_in_range c =
     let s = c.args.sheet.now in
     let due = due_of c.args.terms in
     let w = due.form.width in
-    frame_sound s 0 due.form.head (head_length_wrong due s) (head_out_of_range due s) c.frame-framed.ensures
-    c.in_default.is
+    frame_sound s 0 due.form.head (head_length_wrong due s) (head_out_of_range due s) c.frame.ensures
+    c.in_ok-frame.was
     (rw (
       eq-eqb (length_at s 0) (1 + w + w) (omega arith),
       not-false (head_out_of_range due s)
@@ -72,8 +50,8 @@ returns c =
     let s = c.args.sheet.now in
     let due = due_of c.args.terms in
     let w = due.form.width in
-    frame_sound s 0 due.form.head (head_length_wrong due s) (head_out_of_range due s) c.frame-framed.ensures
-    c.in_default.is
+    frame_sound s 0 due.form.head (head_length_wrong due s) (head_out_of_range due s) c.frame.ensures
+    c.in_ok-frame.was
     (rw (
       eq-eqb (length_at s 0) (1 + w + w) (omega arith),
       not-true (head_out_of_range due s)

@@ -1,28 +1,20 @@
 -- `lut_ruling` meets its contract: the frame's ruling, then length, then range.
-use mathlib.Core.Path.{sym, ◌∙◌}
-use borrow.Author.Tests.{not-true}
+use Rattle.std.proofs.lemmas.Result.{err_from_is_err_and}
 use Rattle.sheet.specs.paper.Shape.{lut_ruling, lut_length_wrong, lut_range, lut_at}
 use Rattle.shaping.specs.Terms.{due_of}
-use Rattle.shaping.proofs.Rulings.{frame_fits, frame_faulty, frame_sound, value_wrong, value_far, value_sound}
-use mathlib.Core.Bool.{false}
+use Rattle.shaping.proofs.Rulings.{frame_faulty, frame_sound, value_wrong, value_far, value_sound}
 use Rattle.shaping.proofs.fields.lut_ruling.Goals as goal
 
-pub returns-in-Faulty : goal.returns-in-Faulty
+pub returns-in_err-frame : goal.returns-in_err-frame
 unfolding lut_ruling
-returns-in-Faulty c =
+returns-in_err-frame c =
     let s = c.args.sheet.now in
     let due = due_of c.args.terms in
     let at = c.args.at in
-    frame_faulty s at due.form.lut (lut_length_wrong due s at)
-    (lut_range due c.args.least (lut_at due s at)) c.frame-framed.ensures c.in-Faulty.is
-
-pub lut_uses-requires : goal.lut_uses-requires
-lut_uses-requires c =
-    record {
-      narrow = c.requires.narrow;
-      at_in_bounds = frame_fits c.args.sheet.now c.args.at c.args.terms.form.lut false false
-          c.frame-framed.ensures c.in_default.is;
-    }
+    let p = err_from_is_err_and c.from_residual.result c.from_residual.ensures.1 in
+    rw (p.1, p.2)
+    (frame_faulty s at due.form.lut (lut_length_wrong due s at)
+    (lut_range due c.args.least (lut_at due s at)) c.frame.ensures c.in_err-frame.was)
 
 pub returns-then-not-lut_uses : goal.returns-then-not-lut_uses
 unfolding lut_ruling
@@ -31,21 +23,9 @@ returns-then-not-lut_uses c =
     let due = due_of c.args.terms in
     let at = c.args.at in
     frame_sound s at due.form.lut (lut_length_wrong due s at) (lut_range due c.args.least (lut_at due s at))
-    c.frame-framed.ensures c.in_default.is
+    c.frame.ensures c.in_ok-frame.was
     (value_wrong at (lut_length_wrong due s at) (lut_range due c.args.least (lut_at due s at))
     c.lut_uses.ensures c.if-not-lut_uses.true)
-
-pub lut_in_range-requires : goal.lut_in_range-requires
-lut_in_range-requires c =
-    let s = c.args.sheet.now in
-    let due = due_of c.args.terms in
-    let at = c.args.at in record {
-      narrow = c.requires.narrow;
-      at_in_bounds = frame_fits s at due.form.lut false false c.frame-framed.ensures
-          c.in_default.is;
-      at_value = not-true (lut_length_wrong due s at)
-          (sym c.lut_uses.ensures ∙ c.if-not-lut_uses.false);
-    }
 
 pub returns-then-not-lut_in_range : goal.returns-then-not-lut_in_range
 unfolding lut_ruling
@@ -54,7 +34,7 @@ returns-then-not-lut_in_range c =
     let due = due_of c.args.terms in
     let at = c.args.at in
     frame_sound s at due.form.lut (lut_length_wrong due s at) (lut_range due c.args.least (lut_at due s at))
-    c.frame-framed.ensures c.in_default.is
+    c.frame.ensures c.in_ok-frame.was
     (value_far at (lut_length_wrong due s at) (lut_range due c.args.least (lut_at due s at))
     c.lut_uses.ensures c.lut_in_range.ensures
     c.if-not-lut_uses.false
@@ -67,7 +47,7 @@ returns c =
     let due = due_of c.args.terms in
     let at = c.args.at in
     frame_sound s at due.form.lut (lut_length_wrong due s at) (lut_range due c.args.least (lut_at due s at))
-    c.frame-framed.ensures c.in_default.is
+    c.frame.ensures c.in_ok-frame.was
     (value_sound at (lut_length_wrong due s at) (lut_range due c.args.least (lut_at due s at))
     c.lut_uses.ensures c.lut_in_range.ensures
     c.if-not-lut_uses.false

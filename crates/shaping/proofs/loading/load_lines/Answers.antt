@@ -3,9 +3,10 @@ use Prim.Native.Nat.{◌+◌}
 use Rattle.shaping.specs.Terms.{due_of}
 use Rattle.shaping.proofs.Filling.{lines_room}
 use Rattle.shaping.proofs.FieldRuns.{head_end}
-use Rattle.shaping.proofs.Found.{whole, lines_loading, lines_loaded, input_more, gate_end}
+use Rattle.shaping.proofs.Found.{whole, lines_loading, input_more, gate_end}
 use Rattle.shaping.proofs.Found.{gate_ready, gate_more}
 use native.Mathlib.Omega.{arith}
+use Rattle.shaping.proofs.loading.load_lines.Goals.{then-v-terms, else-v-terms}
 use Rattle.shaping.proofs.loading.load_lines.Goals as goal
 
 pub field_end-at-requires : goal.field_end-at-requires
@@ -16,27 +17,6 @@ field_end-at-requires c =
 
 pub loop-v-init : goal.loop-v-init
 loop-v-init c = lines_loading c.field_end-at.ensures
-
-pub overflow_cast-node : goal.overflow_cast-node
-overflow_cast-node c =
-    omega (arith, c.requires.loadable.nodes)
-
-pub overflow_add-v : goal.overflow_add-v
-overflow_add-v c =
-    omega (arith, c.requires.loadable.nodes)
-
-pub put_no_line-requires : goal.put_no_line-requires
-put_no_line-requires c =
-    lines_room (c.loop-v.v + 1) (omega (arith, c.loop-v-test.true)) c.requires.line_room c.loop-v.invariant.filled
-
-pub loop-v-smaller-then-v-terms : goal.loop-v-smaller-then-v-terms
-loop-v-smaller-then-v-terms c =
-    omega (arith, c.loop-v-test.true)
-
-pub loop-v-preserved-then-v-terms : goal.loop-v-preserved-then-v-terms
-loop-v-preserved-then-v-terms c =
-    input_more c.loop-v.invariant c.requires.loadable.gates (omega (arith, c.if-v-terms.true)) c.requires.line_room
-    c.put_no_line.ensures
 
 pub put_line-requires : goal.put_line-requires
 put_line-requires c =
@@ -51,24 +31,16 @@ field_end-at-requires-else-v-terms c =
     let all = whole (due_of c.args.terms) c.args.sheet.now c.requires.loadable.sound in
     gate_end c.loop-v.invariant all (omega (arith, c.if-v-terms.false)) c.loop-v-test.true
 
-pub loop-v-smaller : goal.loop-v-smaller
-loop-v-smaller c =
-    omega (arith, c.loop-v-test.true)
-
 pub loop-v-preserved : goal.loop-v-preserved
 loop-v-preserved c =
     let all = whole (due_of c.args.terms) c.args.sheet.now c.requires.loadable.sound in
-    gate_more c.loop-v.invariant all (omega (arith, c.if-v-terms.false)) c.loop-v-test.true c.requires.line_room
-    c.put_line.ensures c.field_end-at-else-v-terms.ensures
-
-pub shape_of-labels : goal.shape_of-labels
-shape_of-labels c = c.loop-v.invariant.filled.labels.as_long
-
-pub shape_of-cuts : goal.shape_of-cuts
-shape_of-cuts c = c.loop-v.invariant.filled.cuts.as_long
-
-pub shape_of-places : goal.shape_of-places
-shape_of-places c = c.loop-v.invariant.filled.places.as_long
-
-pub returns : goal.returns
-returns c = lines_loaded c.loop-v.invariant (omega (arith, c.loop-v-test.false))
+    let so_far = c.loop-v.invariant in
+    elim c.if-v-terms.branch [
+      | then-v-terms w ↦
+          rw (w.labels-is, w.cuts-is, w.places-is, w.at-is)
+          (input_more so_far c.requires.loadable.gates w.if-v-terms.true c.requires.line_room w.put_no_line.ensures)
+      | else-v-terms w ↦
+          rw (w.labels-is, w.cuts-is, w.places-is, w.at-is)
+          (gate_more so_far all w.if-v-terms.false c.loop-v-test.true c.requires.line_room w.put_line.ensures
+          w.field_end-at-else-v-terms.ensures)
+    ]

@@ -2,16 +2,13 @@
 use Prim.Native.Nat.{◌+◌}
 use Rattle.shaping.specs.Terms.{due_of}
 use Rattle.shaping.specs.Loading.{lut_arrays}
-use Rattle.shaping.proofs.Filling.{luts_begin, luts_put, luts_room, lut_room_lem, luts_to, put_as}
+use Rattle.shaping.proofs.Filling.{luts_begin, luts_put, luts_room, lut_room_lem, put_as}
 use Rattle.shaping.proofs.FieldRuns.{head_inside, lut_end, lut_whole}
-use Rattle.shaping.proofs.Found.{whole, left_first, next_inside, none_here, left_past, some_left}
+use Rattle.shaping.proofs.Found.{whole, left_first, next_inside, none_here, left_past}
 use Rattle.shaping.proofs.Found.{ruled_here, lut_here, left_behind}
 use native.Mathlib.Omega.{arith}
+use Rattle.shaping.proofs.loading.load_luts.Goals.{then-next_root-node, else-next_root-node}
 use Rattle.shaping.proofs.loading.load_luts.Goals as goal
-
-pub overflow_add-width : goal.overflow_add-width
-overflow_add-width c =
-    omega (arith, c.requires.loadable.narrow.few)
 
 pub small_at-requires : goal.small_at-requires
 small_at-requires c =
@@ -34,43 +31,12 @@ loop-v-init c =
       filled = luts_begin (lut_arrays c.args.luts.now c.args.cuts.now c.args.tables.now);
     }
 
-pub overflow_cast-node : goal.overflow_cast-node
-overflow_cast-node c =
-    omega (arith, c.requires.loadable.nodes)
-
-pub overflow_add-v : goal.overflow_add-v
-overflow_add-v c =
-    omega (arith, c.requires.loadable.nodes)
-
 pub next_root-requires : goal.next_root-requires
 next_root-requires c =
     record {
       narrow = c.requires.loadable.narrow;
       nodes = c.requires.loadable.nodes;
       inside = next_inside (due_of c.args.terms) c.args.sheet.now c.loop-v.invariant.left;
-    }
-
-pub put_no_lut-requires : goal.put_no_lut-requires
-put_no_lut-requires c =
-    luts_room (c.loop-v.v + 1) (omega (arith, c.loop-v-test.true)) c.requires.lut_room c.loop-v.invariant.filled
-
-pub loop-v-smaller-then-next_root-node : goal.loop-v-smaller-then-next_root-node
-loop-v-smaller-then-next_root-node c =
-    omega (arith, c.loop-v-test.true)
-
-pub loop-v-preserved-then-next_root-node : goal.loop-v-preserved-then-next_root-node
-loop-v-preserved-then-next_root-node c =
-    let due = due_of c.args.terms in
-    let s = c.args.sheet.now in
-    let l = c.loop-v.invariant.left in
-    record {
-      most = omega (arith, c.loop-v-test.true);
-      left = left_past due s l c.next_root.ensures c.if-next_root-node.true;
-      filled =
-          luts_put (lut_room_lem (c.loop-v.v + 1) (omega (arith, c.loop-v-test.true)) c.requires.lut_room)
-          c.loop-v.invariant.filled
-          (put_as (none_here due s l c.next_root.ensures c.if-next_root-node.true)
-          c.put_no_lut.ensures);
     }
 
 pub put_lut-requires : goal.put_lut-requires
@@ -97,46 +63,28 @@ field_end-requires c =
     lut_end due s l.least c.loop-v.turn.at
     (ruled_here due s l c.next_root.ensures (omega (arith, c.if-next_root-node.false)) c.loop-v-test.true)
 
-pub overflow_sub-turn : goal.overflow_sub-turn
-overflow_sub-turn c =
-    let due = due_of c.args.terms in
-    let s = c.args.sheet.now in
-    let l = c.loop-v.invariant.left in
-    omega (
-      arith,
-      some_left due s l c.next_root.ensures (omega (arith, c.if-next_root-node.false)) c.loop-v-test.true,
-    )
-
-pub loop-v-smaller : goal.loop-v-smaller
-loop-v-smaller c =
-    omega (arith, c.loop-v-test.true)
-
 pub loop-v-preserved : goal.loop-v-preserved
 loop-v-preserved c =
     let due = due_of c.args.terms in
     let s = c.args.sheet.now in
     let l = c.loop-v.invariant.left in
-    record {
-      most = omega (arith, c.loop-v-test.true);
-      left =
-          left_behind due s l c.next_root.ensures (omega (arith, c.if-next_root-node.false))
-          c.loop-v-test.true c.field_end.ensures;
-      filled =
-          luts_put (lut_room_lem (c.loop-v.v + 1) (omega (arith, c.loop-v-test.true)) c.requires.lut_room)
-          c.loop-v.invariant.filled
-          (put_as
-          (lut_here due s l c.next_root.ensures (omega (arith, c.if-next_root-node.false)) c.loop-v-test.true)
-          c.put_lut.ensures);
-    }
-
-pub shape_of-luts : goal.shape_of-luts
-shape_of-luts c = c.loop-v.invariant.filled.luts.as_long
-
-pub shape_of-cuts : goal.shape_of-cuts
-shape_of-cuts c = c.loop-v.invariant.filled.cuts.as_long
-
-pub shape_of-tables : goal.shape_of-tables
-shape_of-tables c = c.loop-v.invariant.filled.tables.as_long
-
-pub returns : goal.returns
-returns c = luts_to (omega (arith, c.loop-v.invariant.most)) c.loop-v.invariant.filled
+    let low = c.loop-v-test.true in
+    let room = lut_room_lem (c.loop-v.v + 1) (omega (arith, low)) c.requires.lut_room in
+    let so_far = c.loop-v.invariant.filled in
+    elim c.if-next_root-node.branch [
+      | then-next_root-node w ↦
+          let other = w.if-next_root-node.true in
+          rw (w.luts-is, w.cuts-is, w.tables-is, w.turn-is)
+          (record {
+            most = omega (arith, low);
+            left = left_past due s l c.next_root.ensures other;
+            filled = luts_put room so_far (put_as (none_here due s l c.next_root.ensures other) w.put_no_lut.ensures);
+          })
+      | else-next_root-node w ↦
+          rw (w.luts-is, w.cuts-is, w.tables-is, w.turn-is)
+          (record {
+            most = omega (arith, low);
+            left = left_behind due s l c.next_root.ensures (omega (arith, w.if-next_root-node.false)) low w.field_end.ensures;
+            filled = luts_put room so_far (put_as (lut_here due s l c.next_root.ensures (omega (arith, w.if-next_root-node.false)) low) w.put_lut.ensures);
+          })
+    ]

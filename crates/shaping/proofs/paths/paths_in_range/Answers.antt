@@ -1,15 +1,11 @@
 -- `paths_in_range` meets its contract: what the range rules say of the paths from here on is what they say of all.
-use Prim.Native.Nat.{◌+◌, ◌*◌, ◌-◌}
-use mathlib.Core.Path.{refl, ap, sym, ◌∙◌}
+use Prim.Native.Nat.{ℕ, ◌+◌, ◌*◌, ◌-◌}
+use mathlib.Core.Path.{◌≡◌, ap, sym, ◌∙◌}
 use mathlib.Core.Bool.{not}
-use Rattle.drawing.proofs.Ids.{twice}
-use Rattle.shaping.proofs.PathLists.{ends_after, ends_next, ends_inside, range_none, range_empty}
+use Rattle.shaping.proofs.PathLists.{out_of_range, ends_after, ends_next, ends_inside, range_none, range_empty}
 use Rattle.shaping.proofs.PathLists.{range_far, range_next}
 use native.Mathlib.Omega.{arith}
 use Rattle.shaping.proofs.paths.paths_in_range.Goals as goal
-
-pub loop-left-init : goal.loop-left-init
-loop-left-init c = (omega arith, refl)
 
 pub small_at-size-requires : goal.small_at-size-requires
 small_at-size-requires c =
@@ -17,7 +13,7 @@ small_at-size-requires c =
       narrow = c.requires.narrow;
       width_in_bounds = omega (
         arith,
-        ends_inside c.args.sheet.now c.args.width c.loop-left.next c.loop-left.left
+        ends_inside c.args.sheet.now c.args.width c.loop.next (c.args.count - c.loop.counter)
             (omega arith),
       );
     }
@@ -26,15 +22,15 @@ pub returns-then-size-eq0 : goal.returns-then-size-eq0
 returns-then-size-eq0 c =
     ap not
     (sym
-    (c.loop-left.invariant.1
-    ∙ range_empty c.args.sheet.now c.args.width c.args.nodes c.loop-left.next
-    c.loop-left.left c.small_at-size.ensures (omega arith) (omega arith)))
+    (c.loop.invariant.1
+    ∙ range_empty c.args.sheet.now c.args.width c.args.nodes c.loop.next
+    (c.args.count - c.loop.counter) c.small_at-size.ensures (omega arith) (omega arith)))
 
 pub overflow_add-next : goal.overflow_add-next
 overflow_add-next c =
     omega (
       arith,
-      ends_inside c.args.sheet.now c.args.width c.loop-left.next c.loop-left.left
+      ends_inside c.args.sheet.now c.args.width c.loop.next (c.args.count - c.loop.counter)
           (omega arith),
     )
 
@@ -42,8 +38,8 @@ pub ids_below-requires : goal.ids_below-requires
 ids_below-requires c =
     let s = c.args.sheet.now in
     let w = c.args.width in
-    let next = c.loop-left.next in
-    let left = c.loop-left.left in record {
+    let next = c.loop.next in
+    let left = (c.args.count - c.loop.counter) in record {
       narrow = c.requires.narrow;
       width_in_bounds = omega (
         arith,
@@ -56,52 +52,50 @@ pub returns-then-not-ids_below : goal.returns-then-not-ids_below
 returns-then-not-ids_below c =
     ap not
     (sym
-    (c.loop-left.invariant.1
-    ∙ range_far c.args.sheet.now c.args.width c.args.nodes c.loop-left.next
-    c.loop-left.left c.small_at-size.ensures (omega arith) c.ids_below.ensures
+    (c.loop.invariant.1
+    ∙ range_far c.args.sheet.now c.args.width c.args.nodes c.loop.next
+    (c.args.count - c.loop.counter) c.small_at-size.ensures (omega arith) c.ids_below.ensures
     c.if-not-ids_below.true))
 
-pub overflow_add-next-in-loop-left : goal.overflow_add-next-in-loop-left
-overflow_add-next-in-loop-left c =
+pub overflow_add-next-in-loop : goal.overflow_add-next-in-loop
+overflow_add-next-in-loop c =
     omega (
       arith,
-      ends_inside c.args.sheet.now c.args.width c.loop-left.next c.loop-left.left
+      ends_inside c.args.sheet.now c.args.width c.loop.next (c.args.count - c.loop.counter)
           (omega arith),
     )
 
-pub overflow_mul-next : goal.overflow_mul-next
-overflow_mul-next c =
-    omega (arith, twice c.small_at-size.result c.requires.narrow, c.small_at-size.ensures.fits)
-
-pub overflow_add-next-in-loop-left-2 : goal.overflow_add-next-in-loop-left-2
-overflow_add-next-in-loop-left-2 c =
+pub overflow_add-next-in-loop-2 : goal.overflow_add-next-in-loop-2
+overflow_add-next-in-loop-2 c =
     let s = c.args.sheet.now in
     let w = c.args.width in
-    let next = c.loop-left.next in
-    let left = c.loop-left.left in
+    let next = c.loop.next in
+    let left = (c.args.count - c.loop.counter) in
     omega (
       arith,
       ends_next s w c.args.nodes next left c.small_at-size.ensures (omega arith),
       ends_after s w (next + w + c.small_at-size.result * w) (left - 1),
     )
 
-pub loop-left-preserved : goal.loop-left-preserved
-loop-left-preserved c =
+pub loop-preserved : goal.loop-preserved
+loop-preserved c =
     let s = c.args.sheet.now in
     let w = c.args.width in
-    let next = c.loop-left.next in
-    let left = c.loop-left.left in (
-      omega (arith, ends_next s w c.args.nodes next left c.small_at-size.ensures (omega arith)),
-      c.loop-left.invariant.1
+    let next = c.loop.next in
+    let left = (c.args.count - c.loop.counter) in
+    let fewer : left - 1 ≡ c.args.count - (c.loop.counter + 1) = omega arith in (
+      rw (sym fewer) (omega (arith, ends_next s w c.args.nodes next left c.small_at-size.ensures (omega arith))),
+      c.loop.invariant.1
           ∙ range_next s w c.args.nodes next left c.small_at-size.ensures (omega arith)
           c.ids_below.ensures c.if-size-eq0.false
-          c.if-not-ids_below.false,
+          c.if-not-ids_below.false
+          ∙ ap (λ (n : ℕ). out_of_range s w c.args.nodes (next + w + c.small_at-size.result * w) n) fewer,
     )
 
 pub returns : goal.returns
 returns c =
     ap not
     (sym
-    (c.loop-left.invariant.1
-    ∙ range_none c.args.sheet.now c.args.width c.args.nodes c.loop-left.next
-    c.loop-left.left (omega arith)))
+    (c.loop.invariant.1
+    ∙ range_none c.args.sheet.now c.args.width c.args.nodes c.loop.next
+    (c.args.count - c.loop.counter) (omega arith)))

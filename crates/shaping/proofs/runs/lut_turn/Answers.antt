@@ -1,24 +1,24 @@
 -- `lut_turn` meets its contract: the LUT's ruling, and what is due behind a sound LUT.
 use mathlib.Core.Path.{sym, ◌∙◌}
 use native.Mathlib.Omega.{arith}
+use Rattle.std.proofs.lemmas.Result.{err_from_is_err_and}
 use Rattle.shaping.specs.Terms.{due_of}
 use Rattle.shaping.proofs.FieldRuns.{lut_end, lut_whole, lut_stop, lut_next}
 use Rattle.shaping.proofs.runs.lut_turn.Goals as goal
 
-pub lut_ruling-ruled-requires : goal.lut_ruling-ruled-requires
-lut_ruling-ruled-requires c = record { narrow = c.requires.narrow; field_value = c.requires.field_value }
-
-pub returns-in-Faulty : goal.returns-in-Faulty
-returns-in-Faulty c =
-    lut_stop (due_of c.args.terms) c.args.sheet.now c.args.at c.args.left
-    c.requires.lines_bound c.requires.luts_nonzero c.lut_ruling-ruled.ensures c.in-Faulty.is
+pub returns-in_err-lut_ruling : goal.returns-in_err-lut_ruling
+returns-in_err-lut_ruling c =
+    let p = err_from_is_err_and c.from_residual.result c.from_residual.ensures.1 in
+    rw (p.1, p.2)
+    (lut_stop (due_of c.args.terms) c.args.sheet.now c.args.at c.args.left
+    c.requires.lines_bound c.requires.luts_nonzero c.lut_ruling.ensures c.in_err-lut_ruling.was)
 
 pub overflow_add-at : goal.overflow_add-at
 overflow_add-at c =
     omega (
       arith,
       lut_end (due_of c.args.terms) c.args.sheet.now c.args.left.least c.args.at
-          (sym c.lut_ruling-ruled.ensures ∙ c.in_default.is),
+          (sym c.lut_ruling.ensures ∙ c.in_ok-lut_ruling.was),
     )
 
 pub node_at-root-requires : goal.node_at-root-requires
@@ -28,15 +28,12 @@ node_at-root-requires c =
       width_in_bounds = omega (
         arith,
         lut_whole (due_of c.args.terms) c.args.sheet.now c.args.left.least
-            c.args.at (sym c.lut_ruling-ruled.ensures ∙ c.in_default.is),
+            c.args.at (sym c.lut_ruling.ensures ∙ c.in_ok-lut_ruling.was),
       );
     }
-
-pub overflow_add-result : goal.overflow_add-result
-overflow_add-result c = omega (arith, c.node_at-root.ensures.fits)
 
 pub returns : goal.returns
 returns c =
     lut_next (due_of c.args.terms) c.args.sheet.now c.args.at c.args.left
-    c.requires.lines_bound c.requires.luts_nonzero c.lut_ruling-ruled.ensures
-    c.in_default.is c.node_at-root.ensures
+    c.requires.lines_bound c.requires.luts_nonzero c.lut_ruling.ensures
+    c.in_ok-lut_ruling.was c.node_at-root.ensures

@@ -5,7 +5,7 @@ use lib.ListN.{get_or}
 use Rattle.drawing.specs.paper.Bytes.{ids_at}
 use Rattle.shaping.specs.Loading.{counted}
 use Rattle.drawing.proofs.Ids.{length_ids}
-use Rattle.shaping.proofs.Ids.{id_at, id_past, id_inside}
+use Rattle.shaping.proofs.Ids.{id_at, id_past}
 use native.Mathlib.Omega.{arith}
 use Rattle.shaping.proofs.storing.list_place.Goals as goal
 
@@ -23,21 +23,6 @@ returns-then-size-before c =
     let place : suc (a.i - 1) ≡ a.i = omega arith in
     sym (id_past a.sheet.now a.at a.width a.size.leaves (a.i - 1) (omega arith))
     ∙ ap (λ (n : ℕ). get_or (counted ids) n 0) place
-
-pub overflow_mul-before : goal.overflow_mul-before
-overflow_mul-before c =
-    let a = c.args in
-    omega (arith, id_inside a.width a.size.leaves (a.i - 1) (omega arith))
-
-pub overflow_add-at : goal.overflow_add-at
-overflow_add-at c =
-    let a = c.args in
-    omega (arith, id_inside a.width a.size.leaves (a.i - 1) (omega arith))
-
-pub node_at-requires : goal.node_at-requires
-node_at-requires c =
-    let a = c.args in
-    record { narrow = c.requires.narrow; width_in_bounds = omega (arith, id_inside a.width a.size.leaves (a.i - 1) (omega arith)) }
 
 pub returns : goal.returns
 returns c =

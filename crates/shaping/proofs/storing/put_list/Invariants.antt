@@ -1,12 +1,9 @@
 -- `put_list` meets its contract: the places passed are filled.
-use Prim.Native.Nat.{◌+◌, ◌-◌, ◌≤◌}
+use Prim.Native.Nat.{◌+◌, ◌-◌}
 use lib.ListN.{get_or}
 use Rattle.drawing.specs.paper.Bytes.{ids_at}
 use Rattle.shaping.specs.Loading.{Filled, counted}
 use Rattle.shaping.proofs.storing.put_list.Given as goal
 
 abbrev pub invariant-loop-i : goal.invariant-loop-i
-invariant-loop-i l = (l.i ≤ 7) × Filled l.initial.cuts l.base (l.base + l.i) (λ j. get_or (counted (ids_at l.sheet l.at l.width l.size.leaves)) (j - l.base) 0) l.cuts
-
-abbrev pub decreases-loop-i : goal.decreases-loop-i
-decreases-loop-i l = 7 - l.i
+invariant-loop-i l = Filled l.initial.cuts l.base (l.base + l.i) (λ j. get_or (counted (ids_at l.sheet l.at l.width l.size.leaves)) (j - l.base) 0) l.cuts
