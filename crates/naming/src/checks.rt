@@ -31,12 +31,10 @@ fn is_among(text: &[u8], names: &[u16], many: usize, place: usize) -> bool
     ensures { Tells (Among text.now names.now many (word_at text.now place)) result }
 {
     let end = end_of_word(text, place);
-    let mut i: usize = 0;
-    while i < many {
+    for i in 0..many {
         if is_word_at(text, place, end, place_at(names, i)) {
             return true;
         }
-        i += 1;
     }
     false
 }
@@ -101,10 +99,8 @@ pub fn first_again(text: &[u8], names: &[u16], definitions: usize) -> Naming
     ensures { LeastOf (Some definitions (AgainAt text.now names.now)) result }
 {
     let mut best = Naming::Right;
-    let mut i: usize = 0;
-    while i < definitions {
+    for i in 0..definitions {
         best = earlier(best, again_at(text, names, i));
-        i += 1;
     }
     best
 }
@@ -122,13 +118,11 @@ pub fn first_undefined_operand(
     ensures { LeastOf (Some made (UndefinedInGate text.now names.now definitions gates.now)) result }
 {
     let mut best = Naming::Right;
-    let mut gate: usize = 0;
-    while gate < made {
+    for gate in 0..made {
         best = earlier(
             best,
             undefined_in_gate(text, gates, gate, names, definitions),
         );
-        gate += 1;
     }
     best
 }
@@ -144,11 +138,9 @@ pub fn first_undefined_output(
     ensures { LeastOf (Some outputs (UndefinedOutput text.now names.now definitions)) result }
 {
     let mut best = Naming::Right;
-    let mut i: usize = 0;
-    while i < outputs {
+    for i in 0..outputs {
         let place = place_at(names, definitions + i);
         best = earlier(best, undefined_at(text, names, definitions, place));
-        i += 1;
     }
     best
 }

@@ -23,20 +23,18 @@ pub fn end_of_word(text: &[u8], at: usize) -> usize
 }
 
 // Is the word from `a` to `end` the one at `b`? Stops at the first difference. Who compares a word with many finds its end once.
+#[tactic(auto, using(crate::proofs::Alike::along_none, crate::proofs::Alike::along_within, crate::proofs::Alike::along_fits, crate::proofs::Alike::along_end))]
 pub fn is_word_at(text: &[u8], a: usize, end: usize, b: usize) -> bool
     requires { end ≡ a + length (word_at text.now a) }
     ensures { result ≡ same_word (word_at text.now a) (word_at text.now b) }
 {
-    let mut x = a;
-    let mut y = b;
-    while x < end {
-        if byte_at(text, x) != byte_at(text, y) {
+    let size = end - a;
+    for i in 0..size {
+        if byte_at(text, a + i) != byte_at(text, b + i) {
             return false;
         }
-        x += 1;
-        y += 1;
     }
-    !in_word(text, y)
+    !in_word(text, b + size)
 }
 
 pub fn same_word(text: &[u8], a: usize, b: usize) -> bool
