@@ -9,6 +9,8 @@ use mathlib.Core.List.{List, [], ◌∷◌}
 use lib.Dec.{eqb}
 use lib.ListN.{length, drop, drop_of_length-le}
 use lib.Seq.{drop-cons}
+use Rattle.std.specs.List.{take_while}
+use Rattle.std.proofs.lemmas.List.Sums.{take_while-cons}
 use borrow.Author.Tests.{eq-eqb, eqb-true, ne_eqb}
 use Rattle.storage.proofs.Entries.{false_not_true}
 use Rattle.grammar.specs.paper.Text.{byte_at, is_word_byte, word_of, word_at, same_word}
@@ -34,6 +36,12 @@ same_turned (b ∷ bs) [] = refl
 same_turned (b ∷ bs) (c ∷ cs) = ap (λ (t : Bool). t && same_word bs cs) (eqb_turned b c) ∙ ap (λ (t : Bool). eqb c b && t) (same_turned bs cs)
 
 -- The word at a place
+
+-- the library takes its bytes
+pub word_taken : (s : List ℕ) → take_while is_word_byte s ≡ word_of s
+unfolding word_of
+word_taken [] = refl
+word_taken (b ∷ bs) = take_while-cons is_word_byte b bs ∙ ap (λ (w : List ℕ). cond (is_word_byte b) (b ∷ w) []) (word_taken bs)
 
 module _ (s : List ℕ) where
   pub word_more : (x : ℕ) → is_word_byte (byte_at s x) ≡ true → word_at s x ≡ byte_at s x ∷ word_at s (x + 1)
