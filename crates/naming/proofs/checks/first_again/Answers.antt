@@ -2,7 +2,7 @@
 use Prim.Native.Nat.{ℕ}
 use native.Mathlib.Omega.{arith}
 use mathlib.Core.Path.{◌≡◌, subst}
-use Rattle.naming.specs.Wrongs.{LeastOf, Some, AgainAt}
+use Rattle.naming.specs.Wrongs.{LeastOf, OneBelow, AgainAt}
 use Rattle.naming.proofs.Leasts.{least_none, least_more}
 use Rattle.naming.proofs.checks.first_again.Goals as goal
 
@@ -18,4 +18,4 @@ returns c =
     let l = c.loop-i in
     let a = c.args in
     let all : l.i ≡ a.definitions = omega arith in
-    subst (λ (n : ℕ). LeastOf (Some n (AgainAt a.text.now a.names.now)) l.best) all l.invariant
+    subst (λ (n : ℕ). LeastOf (OneBelow n (AgainAt a.text.now a.names.now)) l.best) all l.invariant

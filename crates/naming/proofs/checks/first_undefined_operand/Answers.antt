@@ -2,7 +2,7 @@
 use Prim.Native.Nat.{ℕ}
 use native.Mathlib.Omega.{arith}
 use mathlib.Core.Path.{◌≡◌, subst}
-use Rattle.naming.specs.Wrongs.{LeastOf, Some, UndefinedInGate}
+use Rattle.naming.specs.Wrongs.{LeastOf, OneBelow, UndefinedInGate}
 use Rattle.naming.proofs.Leasts.{least_none, least_more}
 use Rattle.naming.proofs.checks.first_undefined_operand.Goals as goal
 
@@ -23,5 +23,5 @@ returns c =
     let all : l.gate ≡ a.made = omega arith in
     subst
     (λ (n : ℕ).
-    LeastOf (Some n (UndefinedInGate a.text.now a.names.now a.definitions a.gates.now)) l.best)
+    LeastOf (OneBelow n (UndefinedInGate a.text.now a.names.now a.definitions a.gates.now)) l.best)
     all l.invariant

@@ -2,7 +2,7 @@
 use Prim.Native.Nat.{ℕ}
 use native.Mathlib.Omega.{arith}
 use mathlib.Core.Path.{◌≡◌, subst}
-use Rattle.naming.specs.Wrongs.{LeastOf, Some, UndefinedOutput}
+use Rattle.naming.specs.Wrongs.{LeastOf, OneBelow, UndefinedOutput}
 use Rattle.naming.proofs.Leasts.{least_none, least_more}
 use Rattle.naming.proofs.checks.first_undefined_output.Goals as goal
 
@@ -20,5 +20,5 @@ returns c =
     let a = c.args in
     let all : l.i ≡ a.outputs = omega arith in
     subst
-    (λ (n : ℕ). LeastOf (Some n (UndefinedOutput a.text.now a.names.now a.definitions)) l.best) all
+    (λ (n : ℕ). LeastOf (OneBelow n (UndefinedOutput a.text.now a.names.now a.definitions)) l.best) all
     l.invariant
