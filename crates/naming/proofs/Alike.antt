@@ -1,5 +1,5 @@
 -- Words: the word at a place byte by byte, and the test of two words.
-use Prim.Native.Nat.{ℕ, suc, ◌+◌, ◌≤◌, ◌<◌}
+use Prim.Native.Nat.{ℕ, suc, ◌+◌, ◌-◌, ◌≤◌, ◌<◌}
 use native.Mathlib.Numerals.{add-one}
 use native.Mathlib.Decide.{dec_lt}
 use native.Mathlib.Omega.{arith}
@@ -7,7 +7,8 @@ use mathlib.Core.Path.{◌≡◌, refl, ap, ap₂, sym, subst, ◌∙◌}
 use mathlib.Core.Bool.{Bool, true, false, cond, not, ◌&&◌, true≢false}
 use mathlib.Core.List.{List, [], ◌∷◌}
 use lib.Dec.{eqb}
-use lib.ListN.{length, drop, drop_of_length-le}
+use lib.ListN.{length, take, drop, drop_of_length-le}
+use Rattle.std.proofs.lemmas.List.{take_all, length-drop}
 use lib.Seq.{drop-cons}
 use Rattle.std.specs.List.{take_while}
 use Rattle.std.proofs.lemmas.List.Sums.{take_while-cons}
@@ -38,10 +39,20 @@ same_turned (b ∷ bs) (c ∷ cs) = ap (λ (t : Bool). t && same_word bs cs) (eq
 -- The word at a place
 
 -- the library takes its bytes
-pub word_taken : (s : List ℕ) → take_while is_word_byte s ≡ word_of s
+word_taken : (s : List ℕ) → take_while is_word_byte s ≡ word_of s
 unfolding word_of
 word_taken [] = refl
 word_taken (b ∷ bs) = take_while-cons is_word_byte b bs ∙ ap (λ (w : List ℕ). cond (is_word_byte b) (b ∷ w) []) (word_taken bs)
+
+-- so from a place on, where the text goes that far
+pub word_in_rest : (s : List ℕ) (x : ℕ) → length (take_while is_word_byte (take (length s - x) (drop x s))) ≡ length (word_at s x)
+word_in_rest s x =
+    ap (λ (l : List ℕ). length (take_while is_word_byte l)) (take_all (length s - x) (drop x s) (omega (arith, length-drop x s)))
+    ∙ ap length (word_taken (drop x s))
+
+pub none_behind : (s : List ℕ) (x : ℕ) → length s ≤ x → length (word_at s x) ≡ 0
+unfolding word_of
+none_behind s x high = ap (λ (l : List ℕ). length (word_of l)) (drop_of_length-le s high)
 
 module _ (s : List ℕ) where
   pub word_more : (x : ℕ) → is_word_byte (byte_at s x) ≡ true → word_at s x ≡ byte_at s x ∷ word_at s (x + 1)

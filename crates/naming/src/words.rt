@@ -1,5 +1,5 @@
 // Words in a text, byte for byte.
-ghost use Rattle.std.specs.Prelude.{◌≡◌, ◌+◌, drop, length};
+ghost use Rattle.std.specs.Prelude.{◌≡◌, ◌+◌, length};
 ghost use Rattle.std.specs.List.{take_while};
 ghost use Rattle.grammar.specs.paper.Text.{byte_at, is_word_byte, word_at, same_word};
 
@@ -12,21 +12,22 @@ fn in_word(text: &[u8], at: usize) -> bool
     is_word_byte(byte_at(text, at))
 }
 
-// How many letters and digits stand from a place on.
-fn letters_from(text: &[u8], at: usize) -> usize
-    ensures { result ≡ length (take_while is_word_byte (drop at text.now)) }
+// How many letters and digits a text begins with.
+fn letters(text: &[u8]) -> usize
+    ensures { result ≡ length (take_while is_word_byte text.now) }
 {
-    text.iter()
-        .skip(at)
-        .take_while(|b| is_word_byte(**b))
-        .count()
+    text.iter().take_while(|b| is_word_byte(**b)).count()
 }
 
 // Where the word at a place ends.
 pub fn end_of_word(text: &[u8], at: usize) -> usize
     ensures { result ≡ at + length (word_at text.now at) }
 {
-    at + letters_from(text, at)
+    if at < text.len() {
+        at + letters(&text[at..])
+    } else {
+        at
+    }
 }
 
 // Is the word from `a` to `end` the one at `b`? Stops at the first difference. Who compares a word with many finds its end once.
