@@ -11,7 +11,7 @@ ghost use Rattle.compiling.specs.Stages.{Scanned, NamesRight, numbers_right};
 
 use crate::tables::{store_table, write_table};
 use drawing::limits::{LEAST_K, MOST_INPUTS, MOST_K, MOST_NODES, MOST_OUTPUTS};
-use naming::{Naming, first_misnamed};
+use naming::first_misnamed;
 use scanning::{Counts, read_text};
 use spelling::MOST_TEXT;
 use storage::{CutSize, Node};
@@ -88,7 +88,7 @@ fn compile_scanned(
     requires { Scanned text.now gates.now names.now counts }
     ensures { Compiles text.now k table.old result table.new }
 {
-    let naming = first_misnamed(
+    let wrong = first_misnamed(
         text,
         gates,
         counts.gates,
@@ -96,9 +96,9 @@ fn compile_scanned(
         counts.definitions,
         counts.outputs,
     );
-    match naming {
-        Naming::Wrong(place) => Reply::Name(place),
-        Naming::Right => compile_named(text, k, gates, names, counts, table),
+    match wrong {
+        Some(place) => Reply::Name(place),
+        None => compile_named(text, k, gates, names, counts, table),
     }
 }
 

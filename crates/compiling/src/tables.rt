@@ -49,10 +49,8 @@ fn write_gates(
     let made = counts.gates;
     let definitions = counts.definitions;
     let mut at = put_table_head(table, k, inputs, made);
-    let mut gate = 0;
-    while gate < made {
+    for gate in 0..made {
         at = write_gate(text, gates, gate, names, definitions, inputs, table, at);
-        gate += 1;
     }
     at
 }
@@ -71,11 +69,9 @@ fn write_outputs(
     let definitions = counts.definitions;
     let outputs = counts.outputs;
     let mut at = start;
-    let mut i = 0;
-    while i < outputs {
+    for i in 0..outputs {
         let node = node_of(text, names, definitions, place_at(names, definitions + i));
         at = put_output(table, at, node);
-        i += 1;
     }
     at
 }

@@ -16,10 +16,10 @@ use Rattle.grammar.specs.paper.Grammar.{System}
 use Rattle.grammar.specs.paper.Names.{used_by, definitions, uses, Misnamed}
 use Rattle.grammar.proofs.Entries.{entry_member, member_place}
 use Rattle.grammar.proofs.Stored.{definitions_size}
-use Rattle.naming.specs.declared.Naming.{Naming}
 use Rattle.naming.specs.Stored.{Stored, place_in}
 use Rattle.naming.specs.Lines.{Three, three_in}
-use Rattle.naming.specs.Wrongs.{Named, LeastOf, earlier_of, Some, Among, AgainAt, UndefinedOperand, UndefinedInGate, UndefinedOutput}
+use Rattle.std.specs.Prelude.{Option}
+use Rattle.naming.specs.Wrongs.{Named, LeastOf, earlier_of, OneBelow, Among, AgainAt, UndefinedOperand, UndefinedInGate, UndefinedOutput}
 use Rattle.naming.proofs.Leasts.{least_same, least_of_two, named_of_least}
 use Rattle.naming.proofs.Threes.{flat, all_threes, flat_all, all_threes_size, three_at, no_three}
 use Rattle.naming.proofs.Pairs.{definition_stored, output_stored}
@@ -78,7 +78,7 @@ module _ {s : List ℕ} {sys : System} {made defined outs : ℕ} {gates names : 
   -- Defined again
 
   again_stands : {p d : ℕ} → Memᴰ p (definitions sys) → Memᴰ d (definitions sys) → d < p → word_at s d ≡ word_at s p →
-      Some defined (AgainAt s names) p
+      OneBelow defined (AgainAt s names) p
   again_stands {p} {d} mp md less same =
       let here = name_at mp in
       let other = name_at md in
@@ -95,7 +95,7 @@ module _ {s : List ℕ} {sys : System} {made defined outs : ℕ} {gates names : 
             };
       }
 
-  again_misnamed : {p : ℕ} → Some defined (AgainAt s names) p → Misnamed s sys p
+  again_misnamed : {p : ℕ} → OneBelow defined (AgainAt s names) p → Misnamed s sys p
   again_misnamed {p} h =
       let i = h.index in
       let k = h.holds.before.index in
@@ -122,7 +122,7 @@ module _ {s : List ℕ} {sys : System} {made defined outs : ℕ} {gates names : 
   three_stored = three_at gates made threes threes_stored threes_long
 
   operand_stands : {p : ℕ} → Memᴰ p (flat_map used_by sys.equations) → (Among s names defined (word_at s p) → ⊥) →
-      Some made (UndefinedInGate s names defined gates) p
+      OneBelow made (UndefinedInGate s names defined gates) p
   operand_stands {p} m none =
       let inside : p < length s = stored.within p (Memᴰ.append_left sys.outputs m) in
       let low : p < most_text = omega (arith, stored.short) in
@@ -152,7 +152,7 @@ module _ {s : List ℕ} {sys : System} {made defined outs : ℕ} {gates names : 
   undefined_misnamed : {p : ℕ} → Memᴰ p (uses sys) → (Among s names defined (word_at s p) → ⊥) → Misnamed s sys p
   undefined_misnamed m none = Misnamed.undefined m (none_among none)
 
-  operand_misnamed : {p : ℕ} → Some made (UndefinedInGate s names defined gates) p → Misnamed s sys p
+  operand_misnamed : {p : ℕ} → OneBelow made (UndefinedInGate s names defined gates) p → Misnamed s sys p
   operand_misnamed {p} h = ⊎_elim (λ l. by_operand _ (λ e. inl e) l) (λ r. by_operand _ (λ e. inr e) r) h.holds
     where
       by_operand : (operand : ℕ) → (p ≡ operand → (p ≡ (three_in gates h.index).left) ⊎ (p ≡ (three_in gates h.index).right)) →
@@ -163,7 +163,7 @@ module _ {s : List ℕ} {sys : System} {made defined outs : ℕ} {gates names : 
 
   -- Used behind `out`
 
-  output_stands : {p : ℕ} → Memᴰ p sys.outputs → (Among s names defined (word_at s p) → ⊥) → Some outs (UndefinedOutput s names defined) p
+  output_stands : {p : ℕ} → Memᴰ p sys.outputs → (Among s names defined (word_at s p) → ⊥) → OneBelow outs (UndefinedOutput s names defined) p
   output_stands m none =
       let place = member_place 0 m in
       let low : place.at < outs = omega (arith, place.inside, stored.outs_said) in
@@ -173,7 +173,7 @@ module _ {s : List ℕ} {sys : System} {made defined outs : ℕ} {gates names : 
         holds = record { here = sym (output_stored stored place.at low ∙ place.entry); nowhere = none };
       }
 
-  output_misnamed : {p : ℕ} → Some outs (UndefinedOutput s names defined) p → Misnamed s sys p
+  output_misnamed : {p : ℕ} → OneBelow outs (UndefinedOutput s names defined) p → Misnamed s sys p
   output_misnamed h =
       let member = entry_member 0 sys.outputs h.index (omega (arith, h.low, stored.outs_said)) in
       undefined_misnamed
@@ -183,9 +183,9 @@ module _ {s : List ℕ} {sys : System} {made defined outs : ℕ} {gates names : 
   -- All of them
 
   abbrev wrong_use : ℕ → Type 0
-  wrong_use p = Some made (UndefinedInGate s names defined gates) p ⊎ Some outs (UndefinedOutput s names defined) p
+  wrong_use p = OneBelow made (UndefinedInGate s names defined gates) p ⊎ OneBelow outs (UndefinedOutput s names defined) p
 
-  misnamed_stands : (p : ℕ) → Misnamed s sys p → Some defined (AgainAt s names) p ⊎ wrong_use p
+  misnamed_stands : (p : ℕ) → Misnamed s sys p → OneBelow defined (AgainAt s names) p ⊎ wrong_use p
   misnamed_stands p (Misnamed.undefined m none) =
       inr
       (⊎_elim (λ (l : Memᴰ p (flat_map used_by sys.equations)). inl (operand_stands l (among_none none)))
@@ -193,11 +193,11 @@ module _ {s : List ℕ} {sys : System} {made defined outs : ℕ} {gates names : 
       (Memᴰ.append_cases (flat_map used_by sys.equations) m))
   misnamed_stands p (Misnamed.again d mp md less same) = inl (again_stands mp md less same)
 
-  stands_misnamed : (p : ℕ) → Some defined (AgainAt s names) p ⊎ wrong_use p → Misnamed s sys p
+  stands_misnamed : (p : ℕ) → OneBelow defined (AgainAt s names) p ⊎ wrong_use p → Misnamed s sys p
   stands_misnamed p = ⊎_elim again_misnamed (⊎_elim operand_misnamed output_misnamed)
 
   -- so the least of the three answers is the least misnamed place
-  pub least_named : {again operand output : Naming} → LeastOf (Some defined (AgainAt s names)) again →
-      LeastOf (Some made (UndefinedInGate s names defined gates)) operand → LeastOf (Some outs (UndefinedOutput s names defined)) output →
+  pub least_named : {again operand output : Option ℕ} → LeastOf (OneBelow defined (AgainAt s names)) again →
+      LeastOf (OneBelow made (UndefinedInGate s names defined gates)) operand → LeastOf (OneBelow outs (UndefinedOutput s names defined)) output →
       Named s sys (earlier_of again (earlier_of operand output))
   least_named a b c = named_of_least (least_same stands_misnamed misnamed_stands (least_of_two a (least_of_two b c)))

@@ -6,8 +6,7 @@ use mathlib.Core.Path.{◌≡◌, refl, ap}
 use mathlib.Core.List.{List}
 use Rattle.grammar.specs.paper.Grammar.{System}
 use Rattle.grammar.specs.paper.Names.{FirstMisnamed}
-use Rattle.naming.specs.declared.Naming.{Naming}
-use Rattle.naming.specs.declared.Naming.TheVariants.{Right, Wrong}
+use Rattle.std.specs.Prelude.{Option, Some, None}
 use Rattle.naming.specs.Wrongs.{Named}
 
 -- one earliest place of a name that is not right
@@ -19,8 +18,8 @@ misnamed_one {p = p} {q = q} a b = same (dec_lt p q) (dec_lt q p)
     same (no high) (yes low) = absurd (a.earliest q low b.misnamed)
     same (no high) (no low) = omega arith
 
-pub named_one : (s : List ℕ) (sys : System) (r q : Naming) → Named s sys r → Named s sys q → r ≡ q
-named_one s sys Right Right a b = refl
-named_one s sys Right (Wrong q) a b = absurd (a q b.misnamed)
-named_one s sys (Wrong p) Right a b = absurd (b p a.misnamed)
-named_one s sys (Wrong p) (Wrong q) a b = ap Wrong (misnamed_one a b)
+pub named_one : (s : List ℕ) (sys : System) (r q : Option ℕ) → Named s sys r → Named s sys q → r ≡ q
+named_one s sys None None a b = refl
+named_one s sys None (Some q) a b = absurd (a q b.misnamed)
+named_one s sys (Some p) None a b = absurd (b p a.misnamed)
+named_one s sys (Some p) (Some q) a b = ap Some (misnamed_one a b)

@@ -1,31 +1,29 @@
 -- Wrong names in the arrays, and the least place of a wrong one.
-use Rattle.std.specs.Prelude.{ℕ, ◌+◌, ◌≤◌, ◌<◌, ◌≡◌, cond, ◌⊎◌, List, ltb}
+use Rattle.std.specs.Prelude.{ℕ, ◌+◌, ◌≤◌, ◌<◌, ◌≡◌, cond, ◌⊎◌, List, Option, Some, None, ltb}
 use Rattle.grammar.specs.paper.Text.{most_text, word_at}
 use Rattle.grammar.specs.paper.Grammar.{System}
 use Rattle.grammar.specs.paper.Names.{WellNamed, FirstMisnamed}
-use Rattle.naming.specs.declared.Naming.{Naming}
-use Rattle.naming.specs.declared.Naming.TheVariants.{Right, Wrong}
 use Rattle.naming.specs.Stored.{place_in}
 use Rattle.naming.specs.Lines.{three_in}
 
 -- what the answer says of a system
-abbrev pub Named : (s : List ℕ) → System → Naming → Type 0
-Named s sys Right = WellNamed s sys
-Named s sys (Wrong p) = FirstMisnamed s sys p
+abbrev pub Named : (s : List ℕ) → System → Option ℕ → Type 0
+Named s sys None = WellNamed s sys
+Named s sys (Some p) = FirstMisnamed s sys p
 
 -- the least place with a property, or that there is none
-pub data LeastOf (P : ℕ → Type 0) : Naming → Type 0 where
-  at : {p : ℕ} → P p → ((q : ℕ) → P q → p ≤ q) → LeastOf P (Wrong p)
-  nowhere : ((q : ℕ) → P q → ⊥) → LeastOf P Right
+pub data LeastOf (P : ℕ → Type 0) : Option ℕ → Type 0 where
+  at : {p : ℕ} → P p → ((q : ℕ) → P q → p ≤ q) → LeastOf P (Some p)
+  nowhere : ((q : ℕ) → P q → ⊥) → LeastOf P None
 
 -- the lesser of two answers
-unfoldable pub earlier_of : Naming → Naming → Naming
-earlier_of Right b = b
-earlier_of (Wrong p) Right = Wrong p
-earlier_of (Wrong p) (Wrong q) = cond (ltb q p) (Wrong q) (Wrong p)
+unfoldable pub earlier_of : Option ℕ → Option ℕ → Option ℕ
+earlier_of None b = b
+earlier_of (Some p) None = Some p
+earlier_of (Some p) (Some q) = cond (ltb q p) (Some q) (Some p)
 
 -- a property of one of the numbers below n
-pub record Some (n : ℕ) (W : ℕ → ℕ → Type 0) (p : ℕ) : Type 0 where
+pub record OneBelow (n : ℕ) (W : ℕ → ℕ → Type 0) (p : ℕ) : Type 0 where
   pub index : ℕ
   pub low : index < n
   pub holds : W index p

@@ -2,27 +2,20 @@
 ghost use Rattle.std.specs.Prelude.{◌≡◌, ◌+◌, ◌*◌, ◌<◌, ◌≤◌, length};
 ghost use Rattle.grammar.specs.paper.Text.{word_at};
 ghost use Rattle.storage.specs.Marks.{Tells};
-ghost use Rattle.naming.specs.Wrongs.{LeastOf, earlier_of, Some, Among, AgainAt, UndefinedAt, UndefinedOperand, UndefinedInGate, UndefinedOutput};
+ghost use Rattle.naming.specs.Wrongs.{LeastOf, earlier_of, OneBelow, Among, AgainAt, UndefinedAt, UndefinedOperand, UndefinedInGate, UndefinedOutput};
 
-use crate::Naming;
 use crate::arrays::{left_at, place_at, right_at};
 use crate::words::{end_of_word, is_word_at};
 use spelling::MOST_TEXT;
 
-// The lesser of two answers.
-pub fn earlier(a: Naming, b: Naming) -> Naming
+// The lesser of two places, where there are such.
+pub fn earlier(a: Option<usize>, b: Option<usize>) -> Option<usize>
     ensures { result ≡ earlier_of a b }
 {
-    let Naming::Wrong(p) = a else {
-        return b;
-    };
-    let Naming::Wrong(q) = b else {
-        return a;
-    };
-    if q < p {
-        return b;
+    match (a, b) {
+        (Some(p), Some(q)) => Some(p.min(q)),
+        _ => a.or(b),
     }
-    a
 }
 
 // Does one of the first names have the word at `place`?
@@ -31,48 +24,45 @@ fn is_among(text: &[u8], names: &[u16], many: usize, place: usize) -> bool
     ensures { Tells (Among text.now names.now many (word_at text.now place)) result }
 {
     let end = end_of_word(text, place);
-    let mut i: usize = 0;
-    while i < many {
+    for i in 0..many {
         if is_word_at(text, place, end, place_at(names, i)) {
             return true;
         }
-        i += 1;
     }
     false
 }
 
-// Wrong if the i-th name has the word of one before it.
-fn again_at(text: &[u8], names: &[u16], i: usize) -> Naming
+// The place of the i-th name, if one before it has its word.
+fn again_at(text: &[u8], names: &[u16], i: usize) -> Option<usize>
     requires { 2 * (i + 1) ≤ length names.now }
     ensures { LeastOf (AgainAt text.now names.now i) result }
 {
     let place = place_at(names, i);
-    if is_among(text, names, i, place) {
-        return Naming::Wrong(place);
-    }
-    Naming::Right
+    is_among(text, names, i, place).then_some(place)
 }
 
-// Wrong if no definition has the word at `place`.
-fn undefined_at(text: &[u8], names: &[u16], definitions: usize, place: usize) -> Naming
+// This place, if no definition has its word.
+fn undefined_at(text: &[u8], names: &[u16], definitions: usize, place: usize) -> Option<usize>
     requires { 2 * definitions ≤ length names.now }
     ensures { LeastOf (UndefinedAt text.now names.now definitions place) result }
 {
-    if is_among(text, names, definitions, place) {
-        return Naming::Right;
-    }
-    Naming::Wrong(place)
+    (!is_among(text, names, definitions, place)).then_some(place)
 }
 
 // A gate's number is no name.
-fn undefined_operand(text: &[u8], names: &[u16], definitions: usize, operand: usize) -> Naming
+fn undefined_operand(
+    text: &[u8],
+    names: &[u16],
+    definitions: usize,
+    operand: usize,
+) -> Option<usize>
     requires { 2 * definitions ≤ length names.now }
     ensures { LeastOf (UndefinedOperand text.now names.now definitions operand) result }
 {
     if operand < MOST_TEXT {
         return undefined_at(text, names, definitions, operand);
     }
-    Naming::Right
+    None
 }
 
 fn undefined_in_gate(
@@ -81,7 +71,7 @@ fn undefined_in_gate(
     gate: usize,
     names: &[u16],
     definitions: usize,
-) -> Naming
+) -> Option<usize>
     requires gate_in_bounds { 3 * (gate + 1) ≤ length gates.now }
     requires definitions_in_bounds { 2 * definitions ≤ length names.now }
     ensures { LeastOf (UndefinedInGate text.now names.now definitions gates.now gate) result }
@@ -96,15 +86,13 @@ fn undefined_in_gate(
 }
 
 // The least place of a name that is defined again.
-pub fn first_again(text: &[u8], names: &[u16], definitions: usize) -> Naming
+pub fn first_again(text: &[u8], names: &[u16], definitions: usize) -> Option<usize>
     requires { 2 * definitions ≤ length names.now }
-    ensures { LeastOf (Some definitions (AgainAt text.now names.now)) result }
+    ensures { LeastOf (OneBelow definitions (AgainAt text.now names.now)) result }
 {
-    let mut best = Naming::Right;
-    let mut i: usize = 0;
-    while i < definitions {
+    let mut best = None;
+    for i in 0..definitions {
         best = earlier(best, again_at(text, names, i));
-        i += 1;
     }
     best
 }
@@ -116,19 +104,17 @@ pub fn first_undefined_operand(
     made: usize,
     names: &[u16],
     definitions: usize,
-) -> Naming
+) -> Option<usize>
     requires made_in_bounds { 3 * made ≤ length gates.now }
     requires definitions_in_bounds { 2 * definitions ≤ length names.now }
-    ensures { LeastOf (Some made (UndefinedInGate text.now names.now definitions gates.now)) result }
+    ensures { LeastOf (OneBelow made (UndefinedInGate text.now names.now definitions gates.now)) result }
 {
-    let mut best = Naming::Right;
-    let mut gate: usize = 0;
-    while gate < made {
+    let mut best = None;
+    for gate in 0..made {
         best = earlier(
             best,
             undefined_in_gate(text, gates, gate, names, definitions),
         );
-        gate += 1;
     }
     best
 }
@@ -139,16 +125,14 @@ pub fn first_undefined_output(
     names: &[u16],
     definitions: usize,
     outputs: usize,
-) -> Naming
+) -> Option<usize>
     requires { 2 * (definitions + outputs) ≤ length names.now }
-    ensures { LeastOf (Some outputs (UndefinedOutput text.now names.now definitions)) result }
+    ensures { LeastOf (OneBelow outputs (UndefinedOutput text.now names.now definitions)) result }
 {
-    let mut best = Naming::Right;
-    let mut i: usize = 0;
-    while i < outputs {
+    let mut best = None;
+    for i in 0..outputs {
         let place = place_at(names, definitions + i);
         best = earlier(best, undefined_at(text, names, definitions, place));
-        i += 1;
     }
     best
 }

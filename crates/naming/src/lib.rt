@@ -14,13 +14,7 @@ ghost use Rattle.naming.specs.Wrongs.{Named};
 
 use crate::checks::{earlier, first_again, first_undefined_operand, first_undefined_output};
 
-// "name used but nowhere defined, or defined again": the earliest such place.
-#[derive(Clone, Copy)]
-pub enum Naming {
-    Right,
-    Wrong(usize),
-}
-
+// "name used but nowhere defined, or defined again": the earliest such place, if there is one.
 // Each definition is compared with those before it, and each use with all: fewer than definitions² / 2 + uses × definitions words. A gate of one operand has
 // it twice, and it is looked up once.
 pub fn first_misnamed(
@@ -30,7 +24,7 @@ pub fn first_misnamed(
     names: &[u16],
     definitions: usize,
     outputs: usize,
-) -> Naming
+) -> Option<usize>
     requires made_in_bounds { 3 * made ≤ length gates.now }
     requires outputs_in_bounds { 2 * (definitions + outputs) ≤ length names.now }
     requires held { Held text.now made definitions outputs gates.now names.now }

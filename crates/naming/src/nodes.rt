@@ -14,12 +14,10 @@ pub fn node_of(text: &[u8], names: &[u16], definitions: usize, place: usize) -> 
     requires { 2 * definitions ≤ length names.now }
     ensures { result.id ≡ node_named text.now names.now definitions place }
 {
-    let mut i: usize = 0;
-    while i < definitions {
+    for i in 0..definitions {
         if same_word(text, place_at(names, i), place) {
             return node_at(names, 2 * i + 1);
         }
-        i += 1;
     }
     Node { id: 0 }
 }

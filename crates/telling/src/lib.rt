@@ -11,10 +11,6 @@ use compiling::{Reply, compile};
 use listing::{TEXT_ROOM, list};
 use wording::write_refused;
 
-const ZERO: u8 = 48;
-
-const NINE: u8 = 57;
-
 // How many bytes the program has to write: of the table's buffer to a file, of the lines' to standard output.
 #[derive(Clone, Copy)]
 pub struct Lengths {
@@ -26,17 +22,10 @@ pub struct Lengths {
 pub fn digit(word: &[u8]) -> u64
     ensures { result ≡ digit_of word.now }
 {
-    if word.len() != 1 {
-        return 0;
+    match word {
+        [byte @ b'0'..=b'9'] => u64::from(*byte - b'0'),
+        _ => 0,
     }
-    let byte = word[0];
-    if byte < ZERO {
-        return 0;
-    }
-    if NINE < byte {
-        return 0;
-    }
-    (byte - ZERO) as u64
 }
 
 // The gate table of a text of equations at the front of the table buffer, and its listing at the front of the other; or there the line of refusal.

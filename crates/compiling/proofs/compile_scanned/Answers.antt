@@ -2,8 +2,8 @@
 use Rattle.compiling.proofs.Outcomes.{misnamed}
 use Rattle.compiling.proofs.compile_scanned.Goals as goal
 
-pub first_misnamed-naming-requires : goal.first_misnamed-naming-requires
-first_misnamed-naming-requires c =
+pub first_misnamed-wrong-requires : goal.first_misnamed-wrong-requires
+first_misnamed-wrong-requires c =
     record { made_in_bounds = c.requires.gates_long; outputs_in_bounds = c.requires.names_long; held = record { says = c.requires.says; stored = c.requires.stored } }
 
 pub compile_named-requires : goal.compile_named-requires
@@ -11,12 +11,12 @@ compile_named-requires c =
     record {
       scanned = c.requires;
       named =
-          rw c.in-Right.is at
-          (c.first_misnamed-naming.ensures c.requires.says c.requires.stored);
+          rw c.in-None.is at
+          (c.first_misnamed-wrong.ensures c.requires.says c.requires.stored);
     }
 
-pub returns-in-Wrong : goal.returns-in-Wrong
-returns-in-Wrong c =
+pub returns-in-Some : goal.returns-in-Some
+returns-in-Some c =
     misnamed c.requires
-    (rw c.in-Wrong.is at
-    (c.first_misnamed-naming.ensures c.requires.says c.requires.stored))
+    (rw c.in-Some.is at
+    (c.first_misnamed-wrong.ensures c.requires.says c.requires.stored))

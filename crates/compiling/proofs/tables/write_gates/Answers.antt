@@ -20,13 +20,6 @@ write_gate-at-requires c =
     (c.loop-gate.invariant.written c.args.k.leaves c.args.counts.outputs c.requires.ready before
     c.requires.table_room_in_bounds head)
 
-pub overflow_add-gate : goal.overflow_add-gate
-overflow_add-gate c =
-    let low = c.loop-gate.invariant.low in
-    let long = c.requires.ready.right.scanned.gates_long in
-    let numbers = c.requires.ready.numbers.nodes in
-    omega (arith, c.requires.ready.right.scanned.stored.made_said)
-
 pub loop-gate-preserved : goal.loop-gate-preserved
 loop-gate-preserved c =
     gates_sofar_more c.loop-gate.invariant c.loop-gate-test.true c.write_gate-at.ensures

@@ -1,11 +1,7 @@
 -- `write_gates` meets its contract: the head, and each turn a gate more. What stood in the buffer before the head is
 -- any list that the head was put into.
 use Rattle.compiling.proofs.TablesWritten.{GatesSofar}
-use Prim.Native.Nat.{◌-◌}
 use Rattle.compiling.proofs.tables.write_gates.Given as goal
 
 abbrev pub invariant-loop-gate : goal.invariant-loop-gate
 invariant-loop-gate l = GatesSofar l.text l.gates l.names l.initial.table l.inputs l.made l.definitions l.initial.at l.table l.at l.gate
-
-abbrev pub decreases-loop-gate : goal.decreases-loop-gate
-decreases-loop-gate l = l.made - l.gate

@@ -10,7 +10,6 @@ loop-i-init c = outputs_sofar_none
 
 pub overflow_add-definitions : goal.overflow_add-definitions
 overflow_add-definitions c =
-    let low = c.loop-i.invariant.low in
     let long = c.requires.ready.right.scanned.names_long in
     omega arith
 
@@ -34,12 +33,6 @@ put_output-at-requires c =
     (c.loop-i.invariant.written asked.k c.args.counts.inputs c.args.counts.gates
     asked.gates asked.ready asked.before asked.room asked.written)
     (c.node_of-node.ensures ∙ found)
-
-pub overflow_add-i : goal.overflow_add-i
-overflow_add-i c =
-    let low = c.loop-i.invariant.low in
-    let long = c.requires.ready.right.scanned.names_long in
-    omega arith
 
 pub loop-i-preserved : goal.loop-i-preserved
 loop-i-preserved c =

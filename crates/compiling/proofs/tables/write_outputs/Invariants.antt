@@ -1,10 +1,6 @@
 -- `write_outputs` meets its contract: each turn writes an output more.
-use Prim.Native.Nat.{◌-◌}
 use Rattle.compiling.proofs.TablesWritten.{OutputsSofar}
 use Rattle.compiling.proofs.tables.write_outputs.Given as goal
 
 abbrev pub invariant-loop-i : goal.invariant-loop-i
 invariant-loop-i l = OutputsSofar l.text l.names l.initial.table l.start l.definitions l.outputs l.table l.at l.i
-
-abbrev pub decreases-loop-i : goal.decreases-loop-i
-decreases-loop-i l = l.outputs - l.i

@@ -2,20 +2,20 @@
 use Prim.Native.Nat.{ℕ}
 use native.Mathlib.Omega.{arith}
 use mathlib.Core.Path.{◌≡◌, subst}
-use Rattle.naming.specs.Wrongs.{LeastOf, Some, AgainAt}
+use Rattle.naming.specs.Wrongs.{LeastOf, OneBelow, AgainAt}
 use Rattle.naming.proofs.Leasts.{least_none, least_more}
 use Rattle.naming.proofs.checks.first_again.Goals as goal
 
 pub loop-i-init : goal.loop-i-init
-loop-i-init c = (omega arith, least_none)
+loop-i-init c = least_none
 
 pub loop-i-preserved : goal.loop-i-preserved
 loop-i-preserved c =
-    (omega arith, rw c.earlier-best.ensures (least_more c.loop-i.invariant.1 c.again_at.ensures))
+    rw c.earlier-best.ensures (least_more c.loop-i.invariant c.again_at.ensures)
 
 pub returns : goal.returns
 returns c =
     let l = c.loop-i in
     let a = c.args in
     let all : l.i ≡ a.definitions = omega arith in
-    subst (λ (n : ℕ). LeastOf (Some n (AgainAt a.text.now a.names.now)) l.best) all l.invariant.1
+    subst (λ (n : ℕ). LeastOf (OneBelow n (AgainAt a.text.now a.names.now)) l.best) all l.invariant

@@ -1,10 +1,6 @@
 -- `first_again` meets its contract: so far, the least of the names passed.
-use Prim.Native.Nat.{◌-◌, ◌≤◌}
-use Rattle.naming.specs.Wrongs.{LeastOf, Some, AgainAt}
+use Rattle.naming.specs.Wrongs.{LeastOf, OneBelow, AgainAt}
 use Rattle.naming.proofs.checks.first_again.Given as goal
 
 abbrev pub invariant-loop-i : goal.invariant-loop-i
-invariant-loop-i l = (l.i ≤ l.definitions) × LeastOf (Some l.i (AgainAt l.text l.names)) l.best
-
-abbrev pub decreases-loop-i : goal.decreases-loop-i
-decreases-loop-i l = l.definitions - l.i
+invariant-loop-i l = LeastOf (OneBelow l.i (AgainAt l.text l.names)) l.best

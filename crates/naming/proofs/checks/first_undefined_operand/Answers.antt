@@ -2,19 +2,19 @@
 use Prim.Native.Nat.{ℕ}
 use native.Mathlib.Omega.{arith}
 use mathlib.Core.Path.{◌≡◌, subst}
-use Rattle.naming.specs.Wrongs.{LeastOf, Some, UndefinedInGate}
+use Rattle.naming.specs.Wrongs.{LeastOf, OneBelow, UndefinedInGate}
 use Rattle.naming.proofs.Leasts.{least_none, least_more}
 use Rattle.naming.proofs.checks.first_undefined_operand.Goals as goal
 
 pub loop-gate-init : goal.loop-gate-init
-loop-gate-init c = (omega arith, least_none)
+loop-gate-init c = least_none
 
 pub undefined_in_gate-requires : goal.undefined_in_gate-requires
 undefined_in_gate-requires c = record { gate_in_bounds = omega arith; definitions_in_bounds = omega arith }
 
 pub loop-gate-preserved : goal.loop-gate-preserved
 loop-gate-preserved c =
-    (omega arith, rw c.earlier-best.ensures (least_more c.loop-gate.invariant.1 c.undefined_in_gate.ensures))
+    rw c.earlier-best.ensures (least_more c.loop-gate.invariant c.undefined_in_gate.ensures)
 
 pub returns : goal.returns
 returns c =
@@ -23,5 +23,5 @@ returns c =
     let all : l.gate ≡ a.made = omega arith in
     subst
     (λ (n : ℕ).
-    LeastOf (Some n (UndefinedInGate a.text.now a.names.now a.definitions a.gates.now)) l.best)
-    all l.invariant.1
+    LeastOf (OneBelow n (UndefinedInGate a.text.now a.names.now a.definitions a.gates.now)) l.best)
+    all l.invariant

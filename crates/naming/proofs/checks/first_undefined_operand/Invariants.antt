@@ -1,10 +1,6 @@
 -- `first_undefined_operand` meets its contract: so far, the least of the gates passed.
-use Prim.Native.Nat.{◌-◌, ◌≤◌}
-use Rattle.naming.specs.Wrongs.{LeastOf, Some, UndefinedInGate}
+use Rattle.naming.specs.Wrongs.{LeastOf, OneBelow, UndefinedInGate}
 use Rattle.naming.proofs.checks.first_undefined_operand.Given as goal
 
 abbrev pub invariant-loop-gate : goal.invariant-loop-gate
-invariant-loop-gate l = (l.gate ≤ l.made) × LeastOf (Some l.gate (UndefinedInGate l.text l.names l.definitions l.gates)) l.best
-
-abbrev pub decreases-loop-gate : goal.decreases-loop-gate
-decreases-loop-gate l = l.made - l.gate
+invariant-loop-gate l = LeastOf (OneBelow l.gate (UndefinedInGate l.text l.names l.definitions l.gates)) l.best

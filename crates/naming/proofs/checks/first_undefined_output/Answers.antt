@@ -2,17 +2,17 @@
 use Prim.Native.Nat.{ℕ}
 use native.Mathlib.Omega.{arith}
 use mathlib.Core.Path.{◌≡◌, subst}
-use Rattle.naming.specs.Wrongs.{LeastOf, Some, UndefinedOutput}
+use Rattle.naming.specs.Wrongs.{LeastOf, OneBelow, UndefinedOutput}
 use Rattle.naming.proofs.Leasts.{least_none, least_more}
 use Rattle.naming.proofs.checks.first_undefined_output.Goals as goal
 
 pub loop-i-init : goal.loop-i-init
-loop-i-init c = (omega arith, least_none)
+loop-i-init c = least_none
 
 pub loop-i-preserved : goal.loop-i-preserved
 loop-i-preserved c =
     let new = rw c.place_at-place.ensures at c.undefined_at.ensures in
-    (omega arith, rw c.earlier-best.ensures (least_more c.loop-i.invariant.1 new))
+    rw c.earlier-best.ensures (least_more c.loop-i.invariant new)
 
 pub returns : goal.returns
 returns c =
@@ -20,5 +20,5 @@ returns c =
     let a = c.args in
     let all : l.i ≡ a.outputs = omega arith in
     subst
-    (λ (n : ℕ). LeastOf (Some n (UndefinedOutput a.text.now a.names.now a.definitions)) l.best) all
-    l.invariant.1
+    (λ (n : ℕ). LeastOf (OneBelow n (UndefinedOutput a.text.now a.names.now a.definitions)) l.best) all
+    l.invariant

@@ -10,7 +10,7 @@ use Rattle.naming.proofs.Alike.{same_fails, same_turned}
 use Rattle.naming.proofs.checks.is_among.Goals as goal
 
 pub loop-i-init : goal.loop-i-init
-loop-i-init c = (omega arith, λ k low. absurd (omega arith))
+loop-i-init c = λ k low. absurd (omega arith)
 
 pub returns-then-is_word_at : goal.returns-then-is_word_at
 returns-then-is_word_at c =
@@ -39,12 +39,12 @@ loop-i-preserved c =
     c.place_at.ensures in
     let test : same_word (word_at s c.place_at.result) (word_at s a.place) ≡ false =
     same_turned (word_at s c.place_at.result) (word_at s a.place) ∙ sym c.is_word_at.ensures ∙ c.if-is_word_at.false in
-    (omega arith, below_more _ _ c.loop-i.invariant.1 (λ same. same_fails test (ap (word_at s) here ∙ same)))
+    below_more _ _ c.loop-i.invariant (λ same. same_fails test (ap (word_at s) here ∙ same))
 
 pub returns : goal.returns
 returns c =
     let l = c.loop-i in
     record {
       yes = λ e. absurd (false≢true e);
-      no = λ e among. l.invariant.1 among.index (omega (arith, among.low)) among.same;
+      no = λ e among. l.invariant among.index (omega (arith, among.low)) among.same;
     }

@@ -1,12 +1,9 @@
 -- `is_among` meets its contract: none of the names passed has the word.
-use Prim.Native.Nat.{ℕ, ◌-◌, ◌≤◌, ◌<◌}
+use Prim.Native.Nat.{ℕ, ◌<◌}
 use mathlib.Core.Path.{◌≡◌}
 use Rattle.grammar.specs.paper.Text.{word_at}
 use Rattle.naming.specs.Stored.{place_in}
 use Rattle.naming.proofs.checks.is_among.Given as goal
 
 abbrev pub invariant-loop-i : goal.invariant-loop-i
-invariant-loop-i l = (l.i ≤ l.many) × ((k : ℕ) → k < l.i → word_at l.text (place_in l.names k) ≡ word_at l.text l.place → ⊥)
-
-abbrev pub decreases-loop-i : goal.decreases-loop-i
-decreases-loop-i l = l.many - l.i
+invariant-loop-i l = (k : ℕ) → k < l.i → word_at l.text (place_in l.names k) ≡ word_at l.text l.place → ⊥

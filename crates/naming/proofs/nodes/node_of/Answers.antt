@@ -12,7 +12,7 @@ pub loop-i-init : goal.loop-i-init
 loop-i-init c =
     let a = c.args in
     let all : a.definitions ≡ a.definitions - 0 = omega arith in
-    (omega arith, ap (λ (n : ℕ). node_from a.text.now a.names.now 0 n (word_at a.text.now a.place)) all)
+    ap (λ (n : ℕ). node_from a.text.now a.names.now 0 n (word_at a.text.now a.place)) all
 
 pub returns-then-same_word : goal.returns-then-same_word
 returns-then-same_word c =
@@ -25,7 +25,7 @@ returns-then-same_word c =
     ∙ c.if-same_word.true in
     c.node_at.ensures
     ∙ sym
-    (c.loop-i.invariant.1
+    (c.loop-i.invariant
     ∙ node_found s a.names.now i (a.definitions - i) (word_at s a.place) (omega arith) test)
 
 pub loop-i-preserved : goal.loop-i-preserved
@@ -38,18 +38,16 @@ loop-i-preserved c =
     ap (λ (p : ℕ). same_word (word_at s p) w) (sym c.place_at.ensures)
     ∙ sym c.same_word.ensures
     ∙ c.if-same_word.false in
-    let less : a.definitions - i - 1 ≡ a.definitions - (i + 1) = omega arith in (
-      omega arith,
-      c.loop-i.invariant.1
-          ∙ node_later s a.names.now i (a.definitions - i) w (omega arith) test
-          ∙ ap (λ (n : ℕ). node_from s a.names.now (i + 1) n w) less,
-    )
+    let less : a.definitions - i - 1 ≡ a.definitions - (i + 1) = omega arith in
+    c.loop-i.invariant
+    ∙ node_later s a.names.now i (a.definitions - i) w (omega arith) test
+    ∙ ap (λ (n : ℕ). node_from s a.names.now (i + 1) n w) less
 
 pub returns : goal.returns
 returns c =
     let l = c.loop-i in
     let a = c.args in
     sym
-    (l.invariant.1
+    (l.invariant
     ∙ node_none a.text.now a.names.now l.i (a.definitions - l.i) (word_at a.text.now a.place)
     (omega arith))

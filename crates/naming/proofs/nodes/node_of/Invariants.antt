@@ -1,14 +1,11 @@
 -- `node_of` meets its contract: what the names from here on say is what all of them do.
-use Prim.Native.Nat.{◌-◌, ◌≤◌}
+use Prim.Native.Nat.{◌-◌}
 use mathlib.Core.Path.{◌≡◌}
 use Rattle.grammar.specs.paper.Text.{word_at}
 use Rattle.naming.specs.Stored.{node_from}
 use Rattle.naming.proofs.nodes.node_of.Given as goal
 
 abbrev pub invariant-loop-i : goal.invariant-loop-i
-invariant-loop-i l = (l.i ≤ l.definitions)
-    × (node_from l.text l.names 0 l.definitions (word_at l.text l.place)
-    ≡ node_from l.text l.names l.i (l.definitions - l.i) (word_at l.text l.place))
-
-abbrev pub decreases-loop-i : goal.decreases-loop-i
-decreases-loop-i l = l.definitions - l.i
+invariant-loop-i l =
+    node_from l.text l.names 0 l.definitions (word_at l.text l.place)
+    ≡ node_from l.text l.names l.i (l.definitions - l.i) (word_at l.text l.place)
