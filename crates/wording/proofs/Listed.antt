@@ -1,12 +1,11 @@
 -- What is left to print of a list, or of marks, is what is printed of the next one, and then what is left behind it.
-use Prim.Native.Nat.{ℕ, suc, ◌+◌, ◌*◌, ◌-◌, ◌≤◌, ◌<◌}
+use Prim.Native.Nat.{ℕ, ◌+◌, ◌*◌, ◌-◌, ◌≤◌, ◌<◌}
 use mathlib.Core.Path.{◌≡◌, refl, ap, sym, ◌∙◌}
 use mathlib.Core.List.{List, [], ◌∷◌, ◌++◌, map, append-nil, append_assoc}
 use native.Mathlib.Numerals.{add-one}
 use native.Mathlib.Omega.{arith}
 use borrow.Author.Tests.{eq-eqb, ne_eqb}
-use lib.ListN.{length, get_or, take, drop, length-take, drop_of_length-le}
-use lib.Seq.{length-take-le, get_or-take}
+use lib.ListN.{length, get_or, take, drop, drop_of_length-le}
 use Rattle.wording.specs.paper.Text.{each, head_line, lut_line, output_line, listing_of}
 use Rattle.wording.specs.Puts.{Put}
 use Rattle.storage.specs.Lists.{size_at}
@@ -41,12 +40,6 @@ module _ (print : ℕ → List ℕ) (l : List ℕ) {t₀ : List ℕ} {at₀ : �
   unfolding each
   each_end h = left_end left (ap (each print) (drop_of_length-le l h))
 
-pub part_entry : (l : List ℕ) (n i : ℕ) → i < n → n ≤ length l → (i < length (take n l)) × (get_or (take n l) i 0 ≡ get_or l i 0)
-part_entry l n i h fits = (omega (arith, length-take-le n l fits), get_or-take n l i 0 h)
-
-pub part_passed : (l : List ℕ) (n i : ℕ) → n ≤ i → length (take n l) ≤ i
-part_passed l n i h = simp length-take (omega arith)
-
 pub marked_root : (print : ℕ → List ℕ) (v mark : ℕ) → mark ≡ 1 → each print (marked v mark) ≡ print v
 unfolding each
 marked_root print v mark e = rw (eq-eqb mark 1 e) (append-nil (print v))
@@ -56,29 +49,26 @@ unfolding each
 marked_other print v mark e = rw (ne_eqb mark 1 e)
 
 -- Of marks, from node v on.
-module _ (print : ℕ → List ℕ) (marks : List ℕ) (nodes : ℕ) (fits : nodes ≤ length marks) {t₀ : List ℕ} {at₀ : ℕ}
-    {all t : List ℕ} {at v : ℕ}
-    (left : Left t₀ at₀ all t at (each print (marked_from v (drop v (take nodes marks))))) where
-  module _ (more : v < nodes) where
-    marks_more : each print (marked_from v (drop v (take nodes marks))) ≡ each print (marked v (get_or marks v 0)) ++ each print (marked_from (v + 1) (drop (v + 1) (take nodes marks)))
+module _ (print : ℕ → List ℕ) (marks : List ℕ) {t₀ : List ℕ} {at₀ : ℕ} {all t : List ℕ} {at v : ℕ}
+    (left : Left t₀ at₀ all t at (each print (marked_from v (drop v marks)))) where
+  module _ (more : v < length marks) where
+    marks_more : each print (marked_from v (drop v marks)) ≡ each print (marked v (get_or marks v 0)) ++ each print (marked_from (v + 1) (drop (v + 1) marks))
     unfolding marked_from
     marks_more =
-        let entry = part_entry marks nodes v more fits in
-        ap (λ (l : List ℕ). each print (marked_from v l)) (rest_more (take nodes marks) v entry.0)
-        ∙ ap (λ (m : ℕ). each print (marked v m ++ marked_from (suc v) (drop (v + 1) (take nodes marks)))) entry.1
-        ∙ ap (λ (u : ℕ). each print (marked v (get_or marks v 0) ++ marked_from u (drop (v + 1) (take nodes marks)))) (sym (add-one v))
-        ∙ each_append print (marked v (get_or marks v 0)) (marked_from (v + 1) (drop (v + 1) (take nodes marks)))
+        ap (λ (l : List ℕ). each print (marked_from v l)) (rest_more marks v more)
+        ∙ ap (λ (u : ℕ). each print (marked v (get_or marks v 0) ++ marked_from u (drop (v + 1) marks))) (sym (add-one v))
+        ∙ each_append print (marked v (get_or marks v 0)) (marked_from (v + 1) (drop (v + 1) marks))
 
     pub marks_room : at + length (each print (marked v (get_or marks v 0))) ≤ length t
     marks_room =
-        left_room left (each print (marked v (get_or marks v 0))) (each print (marked_from (v + 1) (drop (v + 1) (take nodes marks)))) marks_more
+        left_room left (each print (marked v (get_or marks v 0))) (each print (marked_from (v + 1) (drop (v + 1) marks))) marks_more
 
-    pub marks_turn : {t' : List ℕ} {r : ℕ} → Put t at (each print (marked v (get_or marks v 0))) r t' → Left t₀ at₀ all t' r (each print (marked_from (v + 1) (drop (v + 1) (take nodes marks))))
+    pub marks_turn : {t' : List ℕ} {r : ℕ} → Put t at (each print (marked v (get_or marks v 0))) r t' → Left t₀ at₀ all t' r (each print (marked_from (v + 1) (drop (v + 1) marks)))
     marks_turn put = left_turn left _ _ marks_more put
 
-  pub marks_end : nodes ≤ v → Put t₀ at₀ all at t
+  pub marks_end : length marks ≤ v → Put t₀ at₀ all at t
   unfolding each marked_from
-  marks_end h = left_end left (ap (λ (l : List ℕ). each print (marked_from v l)) (drop_of_length-le (take nodes marks) (part_passed marks nodes v h)))
+  marks_end h = left_end left (ap (λ (l : List ℕ). each print (marked_from v l)) (drop_of_length-le marks h))
 
 -- the label and the size as they were read, and the leaves as the part of the array that is lent
 pub lut_part :

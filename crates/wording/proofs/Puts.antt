@@ -37,9 +37,6 @@ module _ {t t' : List ℕ} {at r : ℕ} {xs : List ℕ} (put : Put t at xs r t')
 pub put_none : (t : List ℕ) (at : ℕ) → Put t at [] at t
 put_none t at = record { next = sym (add-zero at); stored = refl }
 
-pub put_byte : (t : List ℕ) (at b : ℕ) → Put t at (b ∷ []) (at + 1) (set t at b)
-put_byte t at b = record { next = refl; stored = refl }
-
 -- the rest of a list begins with its next element
 pub rest_more : (l : List ℕ) (i : ℕ) → i < length l → drop i l ≡ get_or l i 0 ∷ drop (i + 1) l
 rest_more l i h = rw (add-one, drop-cons l i 0)

@@ -40,10 +40,8 @@ fn put_leaves(leaves: &[u16], text: &mut [u8], at: usize) -> usize
     ensures { Put text.old at (each leaf_text leaves.now) result text.new }
 {
     let mut next = at;
-    let mut i = 0;
-    while i < leaves.len() {
-        next = put_leaf(Node { id: leaves[i] }, text, next);
-        i += 1;
+    for &id in leaves {
+        next = put_leaf(Node { id }, text, next);
     }
     next
 }
@@ -135,11 +133,9 @@ pub fn put_luts(
     ensures { Put text.old at (each (lut_text labels.now cuts.now tables.now) (marked_from 0 (take nodes luts.now))) result text.new }
 {
     let mut next = at;
-    let mut v = 0;
-    while v < nodes {
+    for (v, &mark) in luts[..nodes].iter().enumerate() {
         let node = Node { id: v as u16 };
-        next = put_marked(node, luts[v], labels, cuts, tables, text, next);
-        v += 1;
+        next = put_marked(node, mark, labels, cuts, tables, text, next);
     }
     next
 }
@@ -167,10 +163,8 @@ pub fn put_outputs(
     ensures { Put text.old at (each (output_text labels.now) (take number outputs.now)) result text.new }
 {
     let mut next = at;
-    let mut i = 0;
-    while i < number {
-        next = put_output(Node { id: outputs[i] }, labels, text, next);
-        i += 1;
+    for &id in &outputs[..number] {
+        next = put_output(Node { id }, labels, text, next);
     }
     next
 }

@@ -7,13 +7,8 @@ pub fn put_word(word: &[u8], text: &mut [u8], at: usize) -> usize
     requires { at + length word.now ≤ length text.old }
     ensures { Put text.old at word.now result text.new }
 {
-    let mut next = at;
-    let mut i = 0;
-    while i < word.len() {
-        text[next] = word[i];
-        next += 1;
-        i += 1;
-    }
+    let next = at + word.len();
+    text[at..next].copy_from_slice(word);
     next
 }
 
@@ -38,9 +33,7 @@ fn put_digits(n: u64, base: u64, count: usize, text: &mut [u8], at: usize) -> us
     ensures { Put text.old at (digits base count n) result text.new }
 {
     let mut rest = n;
-    let mut i = count;
-    while 0 < i {
-        i -= 1;
+    for i in (0..count).rev() {
         text[at + i] = digit_byte(rest % base);
         rest /= base;
     }

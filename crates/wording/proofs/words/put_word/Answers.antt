@@ -1,31 +1,21 @@
--- `put_word` meets its contract: what is left to put is the rest of the word.
+-- `put_word` meets its contract: what stands from the place on is the word, as a run of stores leaves it.
 use native.Mathlib.Omega.{arith}
-use lib.ListN.{length-drop, drop_of_length-le}
-use Rattle.wording.proofs.Puts.{left_start, left_turn, left_end, put_byte, rest_more}
+use Prim.Native.Nat.{ℕ, ◌+◌, ◌-◌}
+use mathlib.Core.Path.{◌≡◌, refl, ap, sym, ◌∙◌}
+use mathlib.Core.List.{List, ◌++◌, append_assoc}
+use lib.ListN.{length, take, drop}
+use lib.Seq.{sets-eq, drop-drop}
 use Rattle.wording.proofs.words.put_word.Goals as goal
-
-pub loop-i-init : goal.loop-i-init
-loop-i-init c = (omega arith, left_start _ _ _ c.requires)
-
-pub bounds-text-next : goal.bounds-text-next
-bounds-text-next c =
-    omega (arith, length-drop c.loop-i.i c.args.word.now)
-
-pub overflow_add-next : goal.overflow_add-next
-overflow_add-next c =
-    omega (arith, length-drop c.loop-i.i c.args.word.now)
-
-pub loop-i-preserved : goal.loop-i-preserved
-loop-i-preserved c =
-    let s = c.loop-i in (
-      omega arith,
-      left_turn s.invariant.1 _ _ (rest_more c.args.word.now s.i c.loop-i-test.true)
-          (put_byte s.text s.next _),
-    )
-
-pub shape_of-text : goal.shape_of-text
-shape_of-text c = c.loop-i.invariant.1.size
 
 pub returns : goal.returns
 returns c =
-    left_end c.loop-i.invariant.1 (drop_of_length-le c.args.word.now c.loop-i-test.false)
+    let a = c.args in
+    let w = a.word.now in
+    let end : a.at + (a.at + length w - a.at) ≡ a.at + length w = omega arith in
+    record {
+      next = refl;
+      stored =
+          ap (λ (l : List ℕ). take a.at a.text.now ++ (l ++ drop (a.at + length w - a.at) (drop a.at a.text.now))) c.copy_from_slice.ensures.after
+          ∙ ap (λ (l : List ℕ). take a.at a.text.now ++ (w ++ l)) (drop-drop (a.at + length w - a.at) a.at a.text.now ∙ ap (λ (n : ℕ). drop n a.text.now) end)
+          ∙ sym (sets-eq w a.text.now a.at c.requires ∙ append_assoc (take a.at a.text.now) w (drop (a.at + length w) a.text.now));
+    }
