@@ -2,11 +2,11 @@
 use Rattle.wording.specs.paper.Text.{leaf_text}
 use Rattle.wording.proofs.lines.put_leaf.Goals as goal
 
-pub put_named-requires : goal.put_named-requires
+pub named-requires : goal.named-requires
 unfolding leaf_text
-put_named-requires c =
+named-requires c =
     c.requires
 
 pub returns : goal.returns
 unfolding leaf_text
-returns c = c.put_named.ensures
+returns c = c.named.ensures

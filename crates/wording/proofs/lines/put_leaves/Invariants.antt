@@ -6,4 +6,4 @@ use Rattle.wording.proofs.lines.put_leaves.Given as goal
 
 abbrev pub invariant-loop-id : goal.invariant-loop-id
 invariant-loop-id l =
-    Left l.initial.text l.at (each leaf_text l.leaves) l.text l.next (each leaf_text (drop l.id-index l.leaves))
+    Left l.initial.pen (each leaf_text l.leaves) l.pen (each leaf_text (drop l.id-index l.leaves))

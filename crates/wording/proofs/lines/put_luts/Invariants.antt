@@ -6,5 +6,5 @@ use Rattle.wording.proofs.Puts.{Left}
 use Rattle.wording.proofs.lines.put_luts.Given as goal
 
 abbrev pub invariant-loop-v : goal.invariant-loop-v
-invariant-loop-v l = Left l.initial.text l.at (each (lut_text l.labels l.cuts l.tables) (marked_from 0 (take l.nodes l.luts))) l.text l.next
+invariant-loop-v l = Left l.initial.pen (each (lut_text l.labels l.cuts l.tables) (marked_from 0 (take l.nodes l.luts))) l.pen
     (each (lut_text l.labels l.cuts l.tables) (marked_from l.v (drop l.v (take l.nodes l.luts))))

@@ -4,15 +4,12 @@ use Rattle.wording.proofs.Puts.{put_none}
 use Rattle.wording.proofs.Listed.{marked_root, marked_other}
 use Rattle.wording.proofs.lines.put_marked.Goals as goal
 
-pub put_lut-requires : goal.put_lut-requires
-put_lut-requires c =
-    record {
-      lut_held = c.requires.lut_held c.if-mark-eq1.true;
-      id_in_bounds = rw
-          (marked_root (lut_text c.args.labels.now c.args.cuts.now c.args.tables.now)
-          c.args.node.id c.args.mark c.if-mark-eq1.true)
-          at c.requires.mark_in_bounds;
-    }
+pub put_lut-requires-clause-id_in_bounds : goal.put_lut-requires-clause-id_in_bounds
+put_lut-requires-clause-id_in_bounds c =
+    rw
+    (marked_root (lut_text c.args.labels.now c.args.cuts.now c.args.tables.now)
+    c.args.node.id c.args.mark c.if-mark-eq1.true)
+    at c.requires.mark_in_bounds
 
 pub returns-then-mark-eq1 : goal.returns-then-mark-eq1
 returns-then-mark-eq1 c =
@@ -26,4 +23,4 @@ returns-else-mark-eq1 c =
     rw
     (marked_other (lut_text c.args.labels.now c.args.cuts.now c.args.tables.now)
     c.args.node.id c.args.mark c.if-mark-eq1.false)
-    (put_none c.args.text.now c.args.at)
+    (put_none c.args.pen.now)

@@ -6,5 +6,5 @@ use Rattle.wording.proofs.Puts.{Left}
 use Rattle.wording.proofs.lines.put_outputs.Given as goal
 
 abbrev pub invariant-loop-id : goal.invariant-loop-id
-invariant-loop-id l = Left l.initial.text l.at (each (output_text l.labels) (take l.number l.outputs)) l.text l.next
+invariant-loop-id l = Left l.initial.pen (each (output_text l.labels) (take l.number l.outputs)) l.pen
     (each (output_text l.labels) (drop l.id-index (take l.number l.outputs)))
