@@ -27,7 +27,8 @@ impl Pen<'_> {
         self.word(b"\n");
     }
 
-    // The last `count` digits, from the last one back.
+    // The last `count` digits, from the last one back. By hand, since `Wrote` promises the text always: of a `write!`, std tells the bytes only where it
+    // is `Ok`, and not where that is.
     fn digits(&mut self, n: u64, base: u64, count: usize)
         requires base_nonzero { (0 < base) × (base ≤ 16) }
         requires count_in_bounds { self.old.at + count ≤ length self.old.text.now }
