@@ -10,7 +10,7 @@ ghost use Rattle.wording.specs.paper.Puts.{Wrote};
 ghost use Rattle.wording.specs.paper.Rooms.{room, line_room};
 ghost use Rattle.wording.specs.Arrays.{arrays_of, mapping_in, luts_in, Held, accepted_room};
 
-use crate::lines::{put_head, put_luts, put_outputs};
+use crate::lines::{Luts, put_head, put_outputs};
 use crate::words::Pen;
 use storage::{Label, Numbers};
 
@@ -35,8 +35,13 @@ pub fn list_mapping(
     let inputs = numbers.inputs;
     let mut pen = Pen { text, at: 0 };
     put_head(numbers.k, inputs, nodes - inputs, many, depth, &mut pen);
-    put_luts(nodes, labels, cuts, luts, tables, &mut pen);
-    put_outputs(labels, outputs, numbers.roots, &mut pen);
+    let lines = Luts {
+        labels,
+        cuts,
+        tables,
+    };
+    lines.put_all(&luts[..nodes], &mut pen);
+    put_outputs(labels, &outputs[..numbers.roots], &mut pen);
     pen.at
 }
 

@@ -1,8 +1,9 @@
 // The lines of a listing, and those of LUTs and outputs that arrays hold.
-ghost use Rattle.std.specs.Prelude.{◌≡◌, ℕ, ◌+◌, ◌≤◌, ◌<◌, length, get_or, take};
+ghost use Rattle.std.specs.Prelude.{◌≡◌, ℕ, ◌+◌, ◌≤◌, ◌<◌, length, get_or};
 ghost use Rattle.wording.specs.paper.Text.{each, head_line, leaf_text, lut_line, output_line};
 ghost use Rattle.wording.specs.Puts.{Room, Put};
-ghost use Rattle.wording.specs.Arrays.{marked, marked_from, lut_text, output_text, LutHeld};
+ghost use Rattle.wording.specs.Arrays.{marked, marked_from, output_text};
+ghost use Rattle.wording.specs.Luts.{HeldAt, line_at};
 
 use crate::words::Pen;
 use storage::lists::{PLACES, size_at};
@@ -21,19 +22,12 @@ pub fn put_head(k: CutSize, inputs: usize, gates: usize, luts: usize, depth: Lab
     pen.end_line();
 }
 
-fn put_leaf(leaf: Node, pen: &mut Pen)
-    requires { Room pen.old (leaf_text leaf.id) }
-    ensures { Put pen.old (leaf_text leaf.id) pen.new }
-{
-    pen.named(b" ", leaf.id as u64);
-}
-
 fn put_leaves(leaves: &[u16], pen: &mut Pen)
     requires { Room pen.old (each leaf_text leaves.now) }
     ensures { Put pen.old (each leaf_text leaves.now) pen.new }
 {
     for &id in leaves {
-        put_leaf(Node { id }, pen);
+        pen.named(b" ", id as u64);
     }
 }
 
@@ -60,47 +54,49 @@ fn put_output_line(node: Node, depth: Label, pen: &mut Pen)
     pen.end_line();
 }
 
-// The line of the LUT with this root.
-fn put_lut(root: Node, labels: &[u16], cuts: &[u16], tables: &[u64], pen: &mut Pen)
-    requires lut_held { LutHeld labels.now cuts.now tables.now root.id }
-    requires id_in_bounds { Room pen.old (lut_text labels.now cuts.now tables.now root.id) }
-    ensures { Put pen.old (lut_text labels.now cuts.now tables.now root.id) pen.new }
-{
-    let v = root.id as usize;
-    let first = PLACES * v + 1;
-    let end = first + size_at(cuts, root);
-    let depth = label_of(labels, root);
-    put_lut_line(root, depth, &cuts[first..end], tables[v], pen)
+// What arrays hold of LUTs, each at its root's place.
+#[derive(Clone, Copy)]
+pub struct Luts<'a> {
+    pub labels: &'a [u16],
+    pub cuts: &'a [u16],
+    pub tables: &'a [u64],
 }
 
-// The node's line, if it is a root.
-fn put_marked(node: Node, mark: u8, labels: &[u16], cuts: &[u16], tables: &[u64], pen: &mut Pen)
-    requires lut_held { mark ≡ 1 → LutHeld labels.now cuts.now tables.now node.id }
-    requires mark_in_bounds { Room pen.old (each (lut_text labels.now cuts.now tables.now) (marked node.id mark)) }
-    ensures { Put pen.old (each (lut_text labels.now cuts.now tables.now) (marked node.id mark)) pen.new }
-{
-    if mark == 1 {
-        put_lut(node, labels, cuts, tables, pen);
+impl Luts<'_> {
+    // The line of the LUT with this root.
+    fn put(&self, root: Node, pen: &mut Pen)
+        requires lut_held { HeldAt self.now root.id }
+        requires line_in_bounds { Room pen.old (line_at self.now root.id) }
+        ensures { Put pen.old (line_at self.now root.id) pen.new }
+    {
+        let v = root.id as usize;
+        let first = PLACES * v + 1;
+        let end = first + size_at(self.cuts, root);
+        let depth = label_of(self.labels, root);
+        put_lut_line(root, depth, &self.cuts[first..end], self.tables[v], pen)
     }
-}
 
-// "LUT lines run by root": the nodes are looked at once, as their ids rise.
-pub fn put_luts(
-    nodes: usize,
-    labels: &[u16],
-    cuts: &[u16],
-    luts: &[u8],
-    tables: &[u64],
-    pen: &mut Pen,
-)
-    requires nodes_bound { (nodes ≤ 32767) × (nodes ≤ length luts.now) }
-    requires by_index { (v : ℕ) → v < nodes → get_or luts.now v 0 ≡ 1 → LutHeld labels.now cuts.now tables.now v }
-    requires luts_in_bounds { Room pen.old (each (lut_text labels.now cuts.now tables.now) (marked_from 0 (take nodes luts.now))) }
-    ensures { Put pen.old (each (lut_text labels.now cuts.now tables.now) (marked_from 0 (take nodes luts.now))) pen.new }
-{
-    for (v, &mark) in luts[..nodes].iter().enumerate() {
-        let node = Node { id: v as u16 };
-        put_marked(node, mark, labels, cuts, tables, pen);
+    // The node's line, if it is a root.
+    fn put_marked(&self, node: Node, mark: u8, pen: &mut Pen)
+        requires lut_held { mark ≡ 1 → HeldAt self.now node.id }
+        requires mark_in_bounds { Room pen.old (each (line_at self.now) (marked node.id mark)) }
+        ensures { Put pen.old (each (line_at self.now) (marked node.id mark)) pen.new }
+    {
+        if mark == 1 {
+            self.put(node, pen);
+        }
+    }
+
+    // "LUT lines run by root": the nodes are looked at once, as their ids rise.
+    pub fn put_all(&self, marks: &[u8], pen: &mut Pen)
+        requires marks_bound { length marks.now ≤ 32767 }
+        requires by_index { (v : ℕ) → v < length marks.now → get_or marks.now v 0 ≡ 1 → HeldAt self.now v }
+        requires luts_in_bounds { Room pen.old (each (line_at self.now) (marked_from 0 marks.now)) }
+        ensures { Put pen.old (each (line_at self.now) (marked_from 0 marks.now)) pen.new }
+    {
+        for (v, &mark) in marks.iter().enumerate() {
+            self.put_marked(Node { id: v as u16 }, mark, pen);
+        }
     }
 }
 
@@ -114,13 +110,12 @@ fn put_output(node: Node, labels: &[u16], pen: &mut Pen)
 }
 
 // "output lines in file order"
-pub fn put_outputs(labels: &[u16], outputs: &[u16], number: usize, pen: &mut Pen)
-    requires number_in_bounds { number ≤ length outputs.now }
-    requires by_index { (i : ℕ) → i < number → get_or outputs.now i 0 < length labels.now }
-    requires outputs_in_bounds { Room pen.old (each (output_text labels.now) (take number outputs.now)) }
-    ensures { Put pen.old (each (output_text labels.now) (take number outputs.now)) pen.new }
+pub fn put_outputs(labels: &[u16], outputs: &[u16], pen: &mut Pen)
+    requires by_index { (i : ℕ) → i < length outputs.now → get_or outputs.now i 0 < length labels.now }
+    requires outputs_in_bounds { Room pen.old (each (output_text labels.now) outputs.now) }
+    ensures { Put pen.old (each (output_text labels.now) outputs.now) pen.new }
 {
-    for &id in &outputs[..number] {
+    for &id in outputs {
         put_output(Node { id }, labels, pen);
     }
 }

@@ -39,29 +39,21 @@ put_head-requires c =
     let whole = fits n.k.leaves a.many a.depth.depth t.labels t.cuts t.outputs c.requires.held (omega arith) (omega arith) (omega arith) c.requires.roots_in_bounds in
     omega (arith, simp length-append at whole)
 
-pub put_luts-requires : goal.put_luts-requires
-put_luts-requires c =
+pub put_all-requires-clause-luts_in_bounds : goal.put_all-requires-clause-luts_in_bounds
+put_all-requires-clause-luts_in_bounds c =
     let a = c.args in
     let n = a.numbers in
     let t = c.type_inv in
     let whole = fits n.k.leaves a.many a.depth.depth t.labels t.cuts t.outputs c.requires.held (omega arith) (omega arith) (omega arith) c.requires.roots_in_bounds in
-    record {
-      nodes_bound = (c.requires.held.small, c.requires.held.luts_long);
-      by_index = λ v h root. record { label = omega arith; cut = omega arith; six = c.requires.held.six v h root; table = omega arith };
-      luts_in_bounds = omega (arith, simp length-append at whole);
-    }
+    omega (arith, simp length-append at whole)
 
-pub put_outputs-requires : goal.put_outputs-requires
-put_outputs-requires c =
+pub put_outputs-requires-clause-outputs_in_bounds : goal.put_outputs-requires-clause-outputs_in_bounds
+put_outputs-requires-clause-outputs_in_bounds c =
     let a = c.args in
     let n = a.numbers in
     let t = c.type_inv in
     let whole = fits n.k.leaves a.many a.depth.depth t.labels t.cuts t.outputs c.requires.held (omega arith) (omega arith) (omega arith) c.requires.roots_in_bounds in
-    record {
-      number_in_bounds = c.requires.held.outputs_long;
-      by_index = λ i h. omega (arith, c.requires.held.output_nodes i h);
-      outputs_in_bounds = omega (arith, simp length-append at whole);
-    }
+    omega (arith, simp length-append at whole)
 
 pub returns : goal.returns
 returns c =
@@ -70,4 +62,4 @@ returns c =
     let t = c.type_inv in
     let whole = fits n.k.leaves a.many a.depth.depth t.labels t.cuts t.outputs c.requires.held (omega arith) (omega arith) (omega arith) c.requires.roots_in_bounds in
     rw (listing_parts n.k.leaves n.inputs n.nodes (arrays_of a.labels.now a.cuts.now a.luts.now a.tables.now a.outputs.now) n.roots a.depth.depth c.requires.many_value)
-    (put_wrote refl whole (put_then (put_then c.put_head.ensures c.put_luts.ensures) c.put_outputs.ensures) (search rules))
+    (put_wrote refl whole (put_then (put_then c.put_head.ensures c.put_all.ensures) c.put_outputs.ensures) (search rules))

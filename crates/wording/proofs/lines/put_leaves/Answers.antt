@@ -4,14 +4,16 @@ use Rattle.wording.specs.paper.Text.{leaf_text}
 use Rattle.wording.proofs.Listed.{each_room, each_turn, each_end}
 use Rattle.wording.proofs.lines.put_leaves.Goals as goal
 
-pub put_leaf-requires : goal.put_leaf-requires
-put_leaf-requires c =
+pub named-requires : goal.named-requires
+unfolding leaf_text
+named-requires c =
     each_room leaf_text c.args.leaves.now c.loop-id.invariant c.loop-id-test.true refl
 
 pub loop-id-preserved : goal.loop-id-preserved
+unfolding leaf_text
 loop-id-preserved c =
     each_turn leaf_text c.args.leaves.now c.loop-id.invariant c.loop-id-test.true refl
-    c.put_leaf.ensures
+    c.named.ensures
 
 pub returns : goal.returns
 returns c =

@@ -1,23 +1,22 @@
--- `put_luts` meets its contract: what is left to put is the text of the other roots.
-use lib.ListN.{take}
-use Rattle.wording.specs.Arrays.{lut_text}
+-- `Luts::put_all` meets its contract: what is left to put is the text of the other roots.
+use Rattle.wording.specs.Luts.{line_at}
 use Rattle.wording.proofs.Listed.{marks_room, marks_turn, marks_end}
-use Rattle.wording.proofs.lines.put_luts.Goals as goal
+use Rattle.wording.proofs.lines.Luts.put_all.Goals as goal
 
 pub put_marked-requires-clause-mark_in_bounds : goal.put_marked-requires-clause-mark_in_bounds
 put_marked-requires-clause-mark_in_bounds c =
     let a = c.args in
-    marks_room (lut_text a.labels.now a.cuts.now a.tables.now) (take a.nodes a.luts.now)
+    marks_room (line_at a.self.now) a.marks.now
     c.loop-v.invariant c.loop-v-test.true
 
 pub loop-v-preserved : goal.loop-v-preserved
 loop-v-preserved c =
     let a = c.args in
-    marks_turn (lut_text a.labels.now a.cuts.now a.tables.now) (take a.nodes a.luts.now)
+    marks_turn (line_at a.self.now) a.marks.now
     c.loop-v.invariant c.loop-v-test.true c.put_marked.ensures
 
 pub returns : goal.returns
 returns c =
     let a = c.args in
-    marks_end (lut_text a.labels.now a.cuts.now a.tables.now) (take a.nodes a.luts.now)
+    marks_end (line_at a.self.now) a.marks.now
     c.loop-v.invariant c.loop-v-test.false
