@@ -4,7 +4,6 @@ use mathlib.Core.Path.{◌≡◌, refl, ap, sym, subst}
 use mathlib.Core.List.{List}
 use Rattle.std.specs.Prelude.{Ok, Err}
 use lib.ListN.{length}
-use Rattle.storage.specs.declared.Label.{Label as DepthLabel}
 use Rattle.wording.specs.paper.Text.{refused_line}
 use Rattle.wording.specs.paper.Puts.{Wrote}
 use Rattle.wording.specs.paper.Rooms.{line_room}
@@ -15,40 +14,15 @@ use Rattle.mapping.specs.declared.Reply.TheVariants as mapped
 use Rattle.mapping.specs.paper.Maps as mapper
 use Rattle.mapping.specs.paper.Maps.{Maps}
 use Rattle.inspecting.specs.declared.Inspection.{Inspection}
-use Rattle.inspecting.specs.declared.Inspection.TheVariants.{Accepted, Refused, LoopAt, Shape, Cut, Label, Paths, Cover, Function, Depth}
-use Rattle.inspecting.specs.paper.Inspecting as inspector
 use Rattle.inspecting.specs.paper.Inspecting.{Inspects}
 use Rattle.printing.specs.paper.Reports.{line_of, Reports}
 use Rattle.printing.specs.paper.Draws.{shown_of, refusal_of, Draws}
 
--- The inspector's: each reply but the first
+pub reported : {before : List ℕ} {r : ℕ} {after s t : List ℕ} {reply : Inspection} → line_room ≤ length before → Inspects s t reply →
+    Wrote before (line_of reply) r after → Reports s t before r after
+reported {reply = reply} long inspects wrote = Filled.written (line_of reply) long (record { reply = reply; inspects = inspects; is = refl }) wrote
 
-refused_line_lem : (r : Inspection) → ((depth : DepthLabel) → r ≡ Accepted depth → ⊥) → refused_line (inspector.number r) (inspector.place r) ≡ line_of r
-refused_line_lem (Accepted depth) one = absurd (one depth refl)
-refused_line_lem (Refused r) one = refl
-refused_line_lem (LoopAt gate) one = refl
-refused_line_lem (Shape fault) one = refl
-refused_line_lem (Cut gate) one = refl
-refused_line_lem (Label gate) one = refl
-refused_line_lem (Paths gate) one = refl
-refused_line_lem (Cover gate) one = refl
-refused_line_lem (Function gate) one = refl
-refused_line_lem Depth one = refl
-
-module _ {before : List ℕ} {r : ℕ} {after : List ℕ} where
-  pub reply_wrote : {reply x : Inspection} → reply ≡ x → Wrote before (line_of x) r after → Wrote before (line_of reply) r after
-  reply_wrote is wrote = subst (λ (y : Inspection). Wrote before (line_of y) r after) (sym is) wrote
-
-  pub ruling_wrote : (reply : Inspection) {a b : ℕ} → ((depth : DepthLabel) → reply ≡ Accepted depth → ⊥) → a ≡ inspector.number reply →
-      b ≡ inspector.place reply → Wrote before (refused_line a b) r after → Wrote before (line_of reply) r after
-  ruling_wrote reply one number_is place_is wrote =
-      subst (λ (l : List ℕ). Wrote before l r after) (refused_line_lem reply one) (refused_as number_is place_is wrote)
-
-  pub reported : {s t : List ℕ} {reply : Inspection} → line_room ≤ length before → Inspects s t reply → Wrote before (line_of reply) r after →
-      Reports s t before r after
-  reported {reply = reply} long inspects wrote = Filled.written (line_of reply) long (record { reply = reply; inspects = inspects; is = refl }) wrote
-
--- The mapper's, likewise
+-- The mapper's: each reply but the first
 
 refusal_line : (r : Reply) → ((n : ℕ) → r ≡ mapped.Mapped n → ⊥) → refused_line (mapper.number r) (mapper.place r) ≡ refusal_of r
 refusal_line (mapped.Mapped n) one = absurd (one n refl)
