@@ -46,18 +46,13 @@ fn fail(errors: &impl Print, what: &[u8], error: &io::Error) -> io::Result<()> {
 }
 
 fn write_table(files: &impl Files, path: &[u8], table: &[u8]) -> io::Result<()> {
-    match str::from_utf8(path) {
-        Ok(path) => fs::write(files, path, table),
-        // std has no such path
-        Err(_) => Err(io::Error::from(ErrorKind::InvalidFilename)),
-    }
+    // std has no path that is no text
+    let path = str::from_utf8(path).map_err(|_| io::Error::from(ErrorKind::InvalidFilename))?;
+    fs::write(files, path, table)
 }
 
 fn save(files: &impl Files, errors: &impl Print, path: &[u8], table: &[u8]) -> io::Result<()> {
-    match write_table(files, path, table) {
-        Ok(()) => Ok(()),
-        Err(error) => fail(errors, path, &error),
-    }
+    write_table(files, path, table).or_else(|error| fail(errors, path, &error))
 }
 
 // A missing second argument asks for no file; one that is too long for a path is told as such.

@@ -9,15 +9,14 @@ use std::io;
 // "the first 4,096 bytes of standard input"
 const TABLE_ROOM: usize = 4096;
 
-// A sheet or a line: one of the two is empty, and nothing is written for it.
+// A sheet or a line of refusal.
 fn show(output: &impl Print, errors: &impl Print, table: &[u8]) -> io::Result<()> {
     let mut sheet = [0u8; SHEET_ROOM];
     let mut text = [0u8; LINE_ROOM];
-    let lengths = printing::draw_up(table, &mut sheet, &mut text);
-    let length = lengths.sheet;
-    let line = lengths.line;
-    output.write_all(&sheet[..length])?;
-    errors.write_all(&text[..line])
+    match printing::draw_up(table, &mut sheet, &mut text) {
+        Ok(length) => output.write_all(&sheet[..length]),
+        Err(length) => errors.write_all(&text[..length]),
+    }
 }
 
 // A read that fails ends the table, as the input's end does.

@@ -1,12 +1,12 @@
 // What the inspector's program and the mapper's write, from bytes to lent buffers.
 #![tactic(auto)]
 
-ghost use Rattle.std.specs.Prelude.{◌≤◌, ◌≡◌, length};
+ghost use Rattle.std.specs.Prelude.{◌≤◌, IfErr, IfOk, length};
 ghost use Rattle.wording.specs.paper.Puts.{Wrote};
 ghost use Rattle.wording.specs.paper.Rooms.{line_room};
 ghost use Rattle.wording.specs.paper.Filled.{Front};
 ghost use Rattle.printing.specs.paper.Reports.{line_of, Reports};
-ghost use Rattle.printing.specs.paper.Draws.{sheet_of, refusal_of, Draws};
+ghost use Rattle.printing.specs.paper.Draws.{Draws};
 
 use inspecting::answers::{number_of_inspection, place_of_inspection};
 use inspecting::{Inspection, inspect};
@@ -16,13 +16,6 @@ use wording::{write_accepted, write_refused};
 
 // Room for the longest line.
 pub const LINE_ROOM: usize = 53;
-
-// How many bytes the mapper's program has to write: of the sheet's buffer to standard output, of the text's to standard error.
-#[derive(Clone, Copy)]
-pub struct Lengths {
-    pub sheet: usize,
-    pub line: usize,
-}
 
 // The line of the inspector's reply.
 fn write_reply(reply: Inspection, text: &mut [u8]) -> usize
@@ -52,41 +45,19 @@ pub fn report(table: &[u8], sheet: &[u8], text: &mut [u8]) -> usize
     write_reply(reply, text)
 }
 
-// The sheet's length, where there is one.
-fn sheet_length(reply: Reply) -> usize
-    ensures { result ≡ sheet_of reply }
-{
-    match reply {
-        Reply::Mapped(length) => length,
-        _ => 0,
-    }
-}
-
-// The line of the mapper's refusal, if it refused.
-fn write_refusal(reply: Reply, text: &mut [u8]) -> usize
-    requires { line_room ≤ length text.old }
-    ensures { Wrote text.old (refusal_of reply) result text.new }
-{
-    match reply {
-        Reply::Mapped(_) => 0,
-        _ => write_refused(number_of_reply(reply), place_of_reply(reply), text),
-    }
-}
-
-// The mapper's sheet of a gate table at the front of the sheet buffer, or its line of refusal at the front of the text buffer. A text buffer
-// without room for the longest line leaves both as they were, and the answer is 0 for both.
-pub fn draw_up(table: &[u8], sheet: &mut [u8], text: &mut [u8]) -> Lengths
+// The mapper's sheet of a gate table at the front of the sheet buffer, and its length; or its line of refusal at the front of the text buffer, and that
+// one's length, as the error. A text buffer without room for the longest line leaves both as they were, and the error is 0.
+pub fn draw_up(table: &[u8], sheet: &mut [u8], text: &mut [u8]) -> Result<usize, usize>
     ensures draws { Draws table.now sheet.old text.old result sheet.new text.new }
-    ensures front { Front result.sheet sheet.new }
-    ensures front_2 { Front result.line text.new }
+    ensures front { IfOk result (λ length. Front length sheet.new) }
+    ensures front_2 { IfErr result (λ length. Front length text.new) }
 {
     if text.len() < LINE_ROOM {
-        return Lengths { sheet: 0, line: 0 };
+        return Err(0);
     }
     let reply = map(table, sheet);
-    let line = write_refusal(reply, text);
-    Lengths {
-        sheet: sheet_length(reply),
-        line: line,
+    match reply {
+        Reply::Mapped(length) => Ok(length),
+        _ => Err(write_refused(number_of_reply(reply), place_of_reply(reply), text)),
     }
 }

@@ -10,6 +10,7 @@ use std::io::Read;
 
 // Reads until the buffer is full, the reader is at its end or a read fails. The answer is how many bytes now stand at the buffer's front, all
 // that the reader gave, and how it ended: an error is that of the read that failed.
+// A pair, since an error leaves what came before it standing: an error type with a count would be no plainer to callers that go on with the bytes.
 pub fn fill<R: Read>(reader: &mut R, buffer: &mut [u8]) -> (usize, io::Result<()>)
     ensures front { IsPrefixLen result.0 buffer.new }
     ensures bytes { Consumes (R.remaining reader.old) (R.remaining reader.new) (take result.0 buffer.new) }

@@ -1,14 +1,14 @@
 -- What is left to print of a list, or of marks, is what is printed of the next one, and then what is left behind it.
-use Prim.Native.Nat.{ℕ, suc, ◌+◌, ◌*◌, ◌-◌, ◌≤◌, ◌<◌}
+use Prim.Native.Nat.{ℕ, ◌+◌, ◌*◌, ◌-◌, ◌≤◌, ◌<◌}
 use mathlib.Core.Path.{◌≡◌, refl, ap, sym, ◌∙◌}
 use mathlib.Core.List.{List, [], ◌∷◌, ◌++◌, map, append-nil, append_assoc}
 use native.Mathlib.Numerals.{add-one}
 use native.Mathlib.Omega.{arith}
 use borrow.Author.Tests.{eq-eqb, ne_eqb}
-use lib.ListN.{length, get_or, take, drop, length-take, drop_of_length-le}
-use lib.Seq.{length-take-le, get_or-take}
+use lib.ListN.{length, get_or, take, drop, drop_of_length-le}
 use Rattle.wording.specs.paper.Text.{each, head_line, lut_line, output_line, listing_of}
-use Rattle.wording.specs.Puts.{Put}
+use Rattle.wording.specs.declared.words.Pen.{Pen}
+use Rattle.wording.specs.Puts.{Room, Put}
 use Rattle.storage.specs.Lists.{size_at}
 use Rattle.wording.specs.Arrays.{Arrays, lut_at, output_at, luts_in, outputs_in, mapping_in, lut_text, output_text, marked, marked_from}
 use Rattle.wording.proofs.Puts.{rest_more, Left, left_room, left_turn, left_end}
@@ -25,27 +25,21 @@ each_map print make [] = refl
 each_map print make (v ∷ l) = ap (λ (t : List ℕ). print (make v) ++ t) (each_map print make l)
 
 -- Of a list, from its i-th element on.
-module _ (print : ℕ → List ℕ) (l : List ℕ) {t₀ : List ℕ} {at₀ : ℕ} {all t : List ℕ} {at i : ℕ} (left : Left t₀ at₀ all t at (each print (drop i l))) where
+module _ (print : ℕ → List ℕ) (l : List ℕ) {p₀ : Pen} {all : List ℕ} {p : Pen} {i : ℕ} (left : Left p₀ all p (each print (drop i l))) where
   module _ (more : i < length l) {v : ℕ} (next : get_or l i 0 ≡ v) where
     each_more : each print (drop i l) ≡ print v ++ each print (drop (i + 1) l)
     unfolding each
     each_more = ap (each print) (rest_more l i more) ∙ ap (λ (u : ℕ). print u ++ each print (drop (i + 1) l)) next
 
-    pub each_room : at + length (print v) ≤ length t
+    pub each_room : Room p (print v)
     each_room = left_room left (print v) (each print (drop (i + 1) l)) each_more
 
-    pub each_turn : {t' : List ℕ} {r : ℕ} → Put t at (print v) r t' → Left t₀ at₀ all t' r (each print (drop (i + 1) l))
+    pub each_turn : {q : Pen} → Put p (print v) q → Left p₀ all q (each print (drop (i + 1) l))
     each_turn put = left_turn left (print v) (each print (drop (i + 1) l)) each_more put
 
-  pub each_end : length l ≤ i → Put t₀ at₀ all at t
+  pub each_end : length l ≤ i → Put p₀ all p
   unfolding each
   each_end h = left_end left (ap (each print) (drop_of_length-le l h))
-
-pub part_entry : (l : List ℕ) (n i : ℕ) → i < n → n ≤ length l → (i < length (take n l)) × (get_or (take n l) i 0 ≡ get_or l i 0)
-part_entry l n i h fits = (omega (arith, length-take-le n l fits), get_or-take n l i 0 h)
-
-pub part_passed : (l : List ℕ) (n i : ℕ) → n ≤ i → length (take n l) ≤ i
-part_passed l n i h = simp length-take (omega arith)
 
 pub marked_root : (print : ℕ → List ℕ) (v mark : ℕ) → mark ≡ 1 → each print (marked v mark) ≡ print v
 unfolding each
@@ -56,29 +50,26 @@ unfolding each
 marked_other print v mark e = rw (ne_eqb mark 1 e)
 
 -- Of marks, from node v on.
-module _ (print : ℕ → List ℕ) (marks : List ℕ) (nodes : ℕ) (fits : nodes ≤ length marks) {t₀ : List ℕ} {at₀ : ℕ}
-    {all t : List ℕ} {at v : ℕ}
-    (left : Left t₀ at₀ all t at (each print (marked_from v (drop v (take nodes marks))))) where
-  module _ (more : v < nodes) where
-    marks_more : each print (marked_from v (drop v (take nodes marks))) ≡ each print (marked v (get_or marks v 0)) ++ each print (marked_from (v + 1) (drop (v + 1) (take nodes marks)))
+module _ (print : ℕ → List ℕ) (marks : List ℕ) {p₀ : Pen} {all : List ℕ} {p : Pen} {v : ℕ}
+    (left : Left p₀ all p (each print (marked_from v (drop v marks)))) where
+  module _ (more : v < length marks) where
+    marks_more : each print (marked_from v (drop v marks)) ≡ each print (marked v (get_or marks v 0)) ++ each print (marked_from (v + 1) (drop (v + 1) marks))
     unfolding marked_from
     marks_more =
-        let entry = part_entry marks nodes v more fits in
-        ap (λ (l : List ℕ). each print (marked_from v l)) (rest_more (take nodes marks) v entry.0)
-        ∙ ap (λ (m : ℕ). each print (marked v m ++ marked_from (suc v) (drop (v + 1) (take nodes marks)))) entry.1
-        ∙ ap (λ (u : ℕ). each print (marked v (get_or marks v 0) ++ marked_from u (drop (v + 1) (take nodes marks)))) (sym (add-one v))
-        ∙ each_append print (marked v (get_or marks v 0)) (marked_from (v + 1) (drop (v + 1) (take nodes marks)))
+        ap (λ (l : List ℕ). each print (marked_from v l)) (rest_more marks v more)
+        ∙ ap (λ (u : ℕ). each print (marked v (get_or marks v 0) ++ marked_from u (drop (v + 1) marks))) (sym (add-one v))
+        ∙ each_append print (marked v (get_or marks v 0)) (marked_from (v + 1) (drop (v + 1) marks))
 
-    pub marks_room : at + length (each print (marked v (get_or marks v 0))) ≤ length t
+    pub marks_room : Room p (each print (marked v (get_or marks v 0)))
     marks_room =
-        left_room left (each print (marked v (get_or marks v 0))) (each print (marked_from (v + 1) (drop (v + 1) (take nodes marks)))) marks_more
+        left_room left (each print (marked v (get_or marks v 0))) (each print (marked_from (v + 1) (drop (v + 1) marks))) marks_more
 
-    pub marks_turn : {t' : List ℕ} {r : ℕ} → Put t at (each print (marked v (get_or marks v 0))) r t' → Left t₀ at₀ all t' r (each print (marked_from (v + 1) (drop (v + 1) (take nodes marks))))
+    pub marks_turn : {q : Pen} → Put p (each print (marked v (get_or marks v 0))) q → Left p₀ all q (each print (marked_from (v + 1) (drop (v + 1) marks)))
     marks_turn put = left_turn left _ _ marks_more put
 
-  pub marks_end : nodes ≤ v → Put t₀ at₀ all at t
+  pub marks_end : length marks ≤ v → Put p₀ all p
   unfolding each marked_from
-  marks_end h = left_end left (ap (λ (l : List ℕ). each print (marked_from v l)) (drop_of_length-le (take nodes marks) (part_passed marks nodes v h)))
+  marks_end h = left_end left (ap (λ (l : List ℕ). each print (marked_from v l)) (drop_of_length-le marks h))
 
 -- the label and the size as they were read, and the leaves as the part of the array that is lent
 pub lut_part :

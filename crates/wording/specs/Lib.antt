@@ -1,3 +1,4 @@
 pub mod paper
 pub mod Puts
 pub mod Arrays
+pub mod Luts

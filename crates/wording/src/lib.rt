@@ -10,8 +10,8 @@ ghost use Rattle.wording.specs.paper.Puts.{Wrote};
 ghost use Rattle.wording.specs.paper.Rooms.{room, line_room};
 ghost use Rattle.wording.specs.Arrays.{arrays_of, mapping_in, luts_in, Held, accepted_room};
 
-use crate::lines::{put_head, put_luts, put_outputs};
-use crate::words::{end_line, put_named};
+use crate::lines::{Luts, put_head, put_outputs};
+use crate::words::Pen;
 use storage::{Label, Numbers};
 
 // The lister's text of the mapping that the arrays hold: a LUT for each node with the mark 1, `many` of them, and the outputs in file order.
@@ -33,9 +33,16 @@ pub fn list_mapping(
 {
     let nodes = numbers.nodes;
     let inputs = numbers.inputs;
-    let at = put_head(numbers.k, inputs, nodes - inputs, many, depth, text);
-    let at = put_luts(nodes, labels, cuts, luts, tables, text, at);
-    put_outputs(labels, outputs, numbers.roots, text, at)
+    let mut pen = Pen { text, at: 0 };
+    put_head(numbers.k, inputs, nodes - inputs, many, depth, &mut pen);
+    let lines = Luts {
+        labels,
+        cuts,
+        tables,
+    };
+    lines.put_all(&luts[..nodes], &mut pen);
+    put_outputs(labels, &outputs[..numbers.roots], &mut pen);
+    pen.at
 }
 
 // The one line of a refusal, in two numbers of up to 20 digits.
@@ -43,9 +50,11 @@ pub fn write_refused(number: u64, place: u64, text: &mut [u8]) -> usize
     requires { line_room ≤ length text.old }
     ensures { Wrote text.old (refused_line number place) result text.new }
 {
-    let at = put_named(b"refused ", number, text, 0);
-    let at = put_named(b" at ", place, text, at);
-    end_line(text, at)
+    let mut pen = Pen { text, at: 0 };
+    pen.named(b"refused ", number);
+    pen.named(b" at ", place);
+    pen.end_line();
+    pen.at
 }
 
 // The inspector's one line for a sheet that it takes.
@@ -53,6 +62,8 @@ pub fn write_accepted(depth: Label, text: &mut [u8]) -> usize
     requires { accepted_room ≤ length text.old }
     ensures { Wrote text.old (accepted_line depth.depth) result text.new }
 {
-    let at = put_named(b"accepted depth ", depth.depth as u64, text, 0);
-    end_line(text, at)
+    let mut pen = Pen { text, at: 0 };
+    pen.named(b"accepted depth ", depth.depth as u64);
+    pen.end_line();
+    pen.at
 }

@@ -1,176 +1,121 @@
 // The lines of a listing, and those of LUTs and outputs that arrays hold.
-ghost use Rattle.std.specs.Prelude.{◌≡◌, ℕ, ◌+◌, ◌≤◌, ◌<◌, length, get_or, take};
+ghost use Rattle.std.specs.Prelude.{◌≡◌, ℕ, ◌+◌, ◌≤◌, ◌<◌, length, get_or};
 ghost use Rattle.wording.specs.paper.Text.{each, head_line, leaf_text, lut_line, output_line};
-ghost use Rattle.wording.specs.Puts.{Put};
-ghost use Rattle.wording.specs.Arrays.{marked, marked_from, lut_text, output_text, LutHeld};
+ghost use Rattle.wording.specs.Puts.{Room, Put};
+ghost use Rattle.wording.specs.Arrays.{marked, marked_from, output_text};
+ghost use Rattle.wording.specs.Luts.{HeldAt, line_at};
 
-use crate::words::{end_line, put_hex16, put_named, put_word};
+use crate::words::Pen;
 use storage::lists::{PLACES, size_at};
 use storage::marks::label_of;
 use storage::{CutSize, Label, Node};
 
-pub fn put_head(
-    k: CutSize,
-    inputs: usize,
-    gates: usize,
-    luts: usize,
-    depth: Label,
-    text: &mut [u8],
-) -> usize
-    requires { length (head_line k.leaves inputs gates luts depth.depth) ≤ length text.old }
-    ensures { Put text.old 0 (head_line k.leaves inputs gates luts depth.depth) result text.new }
+pub fn put_head(k: CutSize, inputs: usize, gates: usize, luts: usize, depth: Label, pen: &mut Pen)
+    requires { Room pen.old (head_line k.leaves inputs gates luts depth.depth) }
+    ensures { Put pen.old (head_line k.leaves inputs gates luts depth.depth) pen.new }
 {
-    let at = put_named(b"K ", k.leaves as u64, text, 0);
-    let at = put_named(b" inputs ", inputs as u64, text, at);
-    let at = put_named(b" gates ", gates as u64, text, at);
-    let at = put_named(b" luts ", luts as u64, text, at);
-    let at = put_named(b" depth ", depth.depth as u64, text, at);
-    end_line(text, at)
+    pen.named(b"K ", k.leaves as u64);
+    pen.named(b" inputs ", inputs as u64);
+    pen.named(b" gates ", gates as u64);
+    pen.named(b" luts ", luts as u64);
+    pen.named(b" depth ", depth.depth as u64);
+    pen.end_line();
 }
 
-fn put_leaf(leaf: Node, text: &mut [u8], at: usize) -> usize
-    requires { at + length (leaf_text leaf.id) ≤ length text.old }
-    ensures { Put text.old at (leaf_text leaf.id) result text.new }
+fn put_leaves(leaves: &[u16], pen: &mut Pen)
+    requires { Room pen.old (each leaf_text leaves.now) }
+    ensures { Put pen.old (each leaf_text leaves.now) pen.new }
 {
-    put_named(b" ", leaf.id as u64, text, at)
-}
-
-fn put_leaves(leaves: &[u16], text: &mut [u8], at: usize) -> usize
-    requires { at + length (each leaf_text leaves.now) ≤ length text.old }
-    ensures { Put text.old at (each leaf_text leaves.now) result text.new }
-{
-    let mut next = at;
-    let mut i = 0;
-    while i < leaves.len() {
-        next = put_leaf(Node { id: leaves[i] }, text, next);
-        i += 1;
+    for &id in leaves {
+        pen.named(b" ", id as u64);
     }
-    next
 }
 
 // One LUT's line, with the leaves of its cut.
-fn put_lut_line(
-    root: Node,
-    depth: Label,
-    leaves: &[u16],
-    table: u64,
-    text: &mut [u8],
-    at: usize,
-) -> usize
-    requires { at + length (lut_line (record { root = root.id; depth = depth.depth; leaves = leaves.now; table = table })) ≤ length text.old }
-    ensures { Put text.old at (lut_line (record { root = root.id; depth = depth.depth; leaves = leaves.now; table = table })) result text.new }
+fn put_lut_line(root: Node, depth: Label, leaves: &[u16], table: u64, pen: &mut Pen)
+    requires { Room pen.old (lut_line (record { root = root.id; depth = depth.depth; leaves = leaves.now; table = table })) }
+    ensures { Put pen.old (lut_line (record { root = root.id; depth = depth.depth; leaves = leaves.now; table = table })) pen.new }
 {
-    let at = put_named(b"lut ", root.id as u64, text, at);
-    let at = put_named(b" depth ", depth.depth as u64, text, at);
-    let at = put_word(b" leaves", text, at);
-    let at = put_leaves(leaves, text, at);
-    let at = put_word(b" table ", text, at);
-    let at = put_hex16(table, text, at);
-    end_line(text, at)
+    pen.named(b"lut ", root.id as u64);
+    pen.named(b" depth ", depth.depth as u64);
+    pen.word(b" leaves");
+    put_leaves(leaves, pen);
+    pen.word(b" table ");
+    pen.hex16(table);
+    pen.end_line();
 }
 
-fn put_output_line(node: Node, depth: Label, text: &mut [u8], at: usize) -> usize
-    requires { at + length (output_line (record { node = node.id; depth = depth.depth })) ≤ length text.old }
-    ensures { Put text.old at (output_line (record { node = node.id; depth = depth.depth })) result text.new }
+fn put_output_line(node: Node, depth: Label, pen: &mut Pen)
+    requires { Room pen.old (output_line (record { node = node.id; depth = depth.depth })) }
+    ensures { Put pen.old (output_line (record { node = node.id; depth = depth.depth })) pen.new }
 {
-    let at = put_named(b"output ", node.id as u64, text, at);
-    let at = put_named(b" depth ", depth.depth as u64, text, at);
-    end_line(text, at)
+    pen.named(b"output ", node.id as u64);
+    pen.named(b" depth ", depth.depth as u64);
+    pen.end_line();
 }
 
-// The line of the LUT with this root.
-fn put_lut(
-    root: Node,
-    labels: &[u16],
-    cuts: &[u16],
-    tables: &[u64],
-    text: &mut [u8],
-    at: usize,
-) -> usize
-    requires lut_held { LutHeld labels.now cuts.now tables.now root.id }
-    requires id_in_bounds { at + length (lut_text labels.now cuts.now tables.now root.id) ≤ length text.old }
-    ensures { Put text.old at (lut_text labels.now cuts.now tables.now root.id) result text.new }
-{
-    let v = root.id as usize;
-    let first = PLACES * v + 1;
-    let end = first + size_at(cuts, root);
-    let depth = label_of(labels, root);
-    put_lut_line(root, depth, &cuts[first..end], tables[v], text, at)
+// What arrays hold of LUTs, each at its root's place.
+#[derive(Clone, Copy)]
+pub struct Luts<'a> {
+    pub labels: &'a [u16],
+    pub cuts: &'a [u16],
+    pub tables: &'a [u64],
 }
 
-// The node's line, if it is a root.
-fn put_marked(
-    node: Node,
-    mark: u8,
-    labels: &[u16],
-    cuts: &[u16],
-    tables: &[u64],
-    text: &mut [u8],
-    at: usize,
-) -> usize
-    requires lut_held { mark ≡ 1 → LutHeld labels.now cuts.now tables.now node.id }
-    requires mark_in_bounds { at + length (each (lut_text labels.now cuts.now tables.now) (marked node.id mark)) ≤ length text.old }
-    ensures { Put text.old at (each (lut_text labels.now cuts.now tables.now) (marked node.id mark)) result text.new }
-{
-    if mark == 1 {
-        put_lut(node, labels, cuts, tables, text, at)
-    } else {
-        at
+impl Luts<'_> {
+    // The line of the LUT with this root.
+    fn put(&self, root: Node, pen: &mut Pen)
+        requires lut_held { HeldAt self.now root.id }
+        requires line_in_bounds { Room pen.old (line_at self.now root.id) }
+        ensures { Put pen.old (line_at self.now root.id) pen.new }
+    {
+        let v = root.id as usize;
+        let first = PLACES * v + 1;
+        let end = first + size_at(self.cuts, root);
+        let depth = label_of(self.labels, root);
+        put_lut_line(root, depth, &self.cuts[first..end], self.tables[v], pen)
+    }
+
+    // The node's line, if it is a root.
+    fn put_marked(&self, node: Node, mark: u8, pen: &mut Pen)
+        requires lut_held { mark ≡ 1 → HeldAt self.now node.id }
+        requires mark_in_bounds { Room pen.old (each (line_at self.now) (marked node.id mark)) }
+        ensures { Put pen.old (each (line_at self.now) (marked node.id mark)) pen.new }
+    {
+        if mark == 1 {
+            self.put(node, pen);
+        }
+    }
+
+    // "LUT lines run by root": the nodes are looked at once, as their ids rise.
+    pub fn put_all(&self, marks: &[u8], pen: &mut Pen)
+        requires marks_bound { length marks.now ≤ 32767 }
+        requires by_index { (v : ℕ) → v < length marks.now → get_or marks.now v 0 ≡ 1 → HeldAt self.now v }
+        requires luts_in_bounds { Room pen.old (each (line_at self.now) (marked_from 0 marks.now)) }
+        ensures { Put pen.old (each (line_at self.now) (marked_from 0 marks.now)) pen.new }
+    {
+        for (v, &mark) in marks.iter().enumerate() {
+            self.put_marked(Node { id: v as u16 }, mark, pen);
+        }
     }
 }
 
-// "LUT lines run by root": the nodes are looked at once, as their ids rise.
-pub fn put_luts(
-    nodes: usize,
-    labels: &[u16],
-    cuts: &[u16],
-    luts: &[u8],
-    tables: &[u64],
-    text: &mut [u8],
-    at: usize,
-) -> usize
-    requires nodes_bound { (nodes ≤ 32767) × (nodes ≤ length luts.now) }
-    requires by_index { (v : ℕ) → v < nodes → get_or luts.now v 0 ≡ 1 → LutHeld labels.now cuts.now tables.now v }
-    requires luts_in_bounds { at + length (each (lut_text labels.now cuts.now tables.now) (marked_from 0 (take nodes luts.now))) ≤ length text.old }
-    ensures { Put text.old at (each (lut_text labels.now cuts.now tables.now) (marked_from 0 (take nodes luts.now))) result text.new }
-{
-    let mut next = at;
-    let mut v = 0;
-    while v < nodes {
-        let node = Node { id: v as u16 };
-        next = put_marked(node, luts[v], labels, cuts, tables, text, next);
-        v += 1;
-    }
-    next
-}
-
-fn put_output(node: Node, labels: &[u16], text: &mut [u8], at: usize) -> usize
+fn put_output(node: Node, labels: &[u16], pen: &mut Pen)
     requires id_in_bounds { node.id < length labels.now }
-    requires id_in_bounds_2 { at + length (output_text labels.now node.id) ≤ length text.old }
-    ensures { Put text.old at (output_text labels.now node.id) result text.new }
+    requires id_in_bounds_2 { Room pen.old (output_text labels.now node.id) }
+    ensures { Put pen.old (output_text labels.now node.id) pen.new }
 {
     let depth = label_of(labels, node);
-    put_output_line(node, depth, text, at)
+    put_output_line(node, depth, pen)
 }
 
 // "output lines in file order"
-pub fn put_outputs(
-    labels: &[u16],
-    outputs: &[u16],
-    number: usize,
-    text: &mut [u8],
-    at: usize,
-) -> usize
-    requires number_in_bounds { number ≤ length outputs.now }
-    requires by_index { (i : ℕ) → i < number → get_or outputs.now i 0 < length labels.now }
-    requires outputs_in_bounds { at + length (each (output_text labels.now) (take number outputs.now)) ≤ length text.old }
-    ensures { Put text.old at (each (output_text labels.now) (take number outputs.now)) result text.new }
+pub fn put_outputs(labels: &[u16], outputs: &[u16], pen: &mut Pen)
+    requires by_index { (i : ℕ) → i < length outputs.now → get_or outputs.now i 0 < length labels.now }
+    requires outputs_in_bounds { Room pen.old (each (output_text labels.now) outputs.now) }
+    ensures { Put pen.old (each (output_text labels.now) outputs.now) pen.new }
 {
-    let mut next = at;
-    let mut i = 0;
-    while i < number {
-        next = put_output(Node { id: outputs[i] }, labels, text, next);
-        i += 1;
+    for &id in outputs {
+        put_output(Node { id }, labels, pen);
     }
-    next
 }

@@ -1,11 +1,16 @@
 -- `draw_up` meets its contract: the mapper's sheet, or the line of its refusal.
-use Rattle.printing.proofs.Replies.{drew, drew_nothing}
+use Rattle.wording.proofs.Filled.{at_front, wrote_fits}
+use Rattle.printing.proofs.Replies.{drew_sheet, drew_line}
 use Rattle.printing.proofs.draw_up.Goals as goal
 
-pub returns-then-text-lt-LINE_ROOM : goal.returns-then-text-lt-LINE_ROOM
-returns-then-text-lt-LINE_ROOM c = let asked = drew_nothing c.if-text-lt-LINE_ROOM.true in record { draws = asked.0; front = asked.1.0; front_2 = asked.1.1 }
+pub returns-in-Mapped-clause-draws : goal.returns-in-Mapped-clause-draws
+returns-in-Mapped-clause-draws c = drew_sheet c.if-text-lt-LINE_ROOM.false c.map-reply.ensures c.in-Mapped.is
 
-pub returns : goal.returns
-returns c = let asked =
-    drew c.if-text-lt-LINE_ROOM.false c.map-reply.ensures c.write_refusal-line.ensures
-    c.sheet_length.ensures in record { draws = asked.0; front = asked.1.0; front_2 = asked.1.1 }
+pub returns-in_default : goal.returns-in_default
+returns-in_default c =
+    let wrote = c.write_refused.ensures in
+    record {
+      draws = drew_line c.if-text-lt-LINE_ROOM.false c.map-reply.ensures c.in_default.not-Mapped c.number_of_reply.ensures c.place_of_reply.ensures wrote;
+      front = tt;
+      front_2 = at_front _ (wrote_fits wrote);
+    }

@@ -1,14 +1,16 @@
 -- `write_refused` meets its contract.
 use native.Mathlib.Omega.{arith}
+use Rattle.std.proofs.Common.{rules}
+use mathlib.Core.Path.{refl}
 use lib.ListN.{length-append}
 use Rattle.wording.specs.paper.Text.{refused_line}
 use Rattle.wording.proofs.Puts.{put_then, put_wrote}
 use Rattle.wording.proofs.Rooms.{refused_room}
 use Rattle.wording.proofs.write_refused.Goals as goal
 
-pub put_named-at-requires : goal.put_named-at-requires
+pub named-requires : goal.named-requires
 unfolding refused_line
-put_named-at-requires c =
+named-requires c =
     omega (
       arith,
       simp length-append at
@@ -16,9 +18,9 @@ put_named-at-requires c =
           c.ranges.place.fits),
     )
 
-pub put_named-at-requires-2 : goal.put_named-at-requires-2
+pub named-requires-2 : goal.named-requires-2
 unfolding refused_line
-put_named-at-requires-2 c =
+named-requires-2 c =
     omega (
       arith,
       simp length-append at
@@ -39,8 +41,5 @@ end_line-requires c =
 pub returns : goal.returns
 unfolding refused_line
 returns c =
-    let fits = refused_room c.args.number c.args.place c.ranges.number.fits
-    c.ranges.place.fits in
-    put_wrote (omega arith)
-    (put_then (put_then c.put_named-at.ensures c.put_named-at-2.ensures)
-    c.end_line.ensures)
+    let fits = refused_room c.args.number c.args.place c.ranges.number.fits c.ranges.place.fits in
+    put_wrote refl (omega arith) (put_then (put_then c.named.ensures c.named-2.ensures) c.end_line.ensures) (search rules)

@@ -5,29 +5,29 @@ use Rattle.wording.specs.paper.Text.{head_line}
 use Rattle.wording.proofs.Puts.{put_then}
 use Rattle.wording.proofs.lines.put_head.Goals as goal
 
-pub put_named-at-requires : goal.put_named-at-requires
+pub named-requires : goal.named-requires
 unfolding head_line
-put_named-at-requires c =
+named-requires c =
     omega (arith, simp length-append at c.requires)
 
-pub put_named-at-requires-2 : goal.put_named-at-requires-2
+pub named-requires-2 : goal.named-requires-2
 unfolding head_line
-put_named-at-requires-2 c =
+named-requires-2 c =
     omega (arith, simp length-append at c.requires)
 
-pub put_named-at-requires-3 : goal.put_named-at-requires-3
+pub named-requires-3 : goal.named-requires-3
 unfolding head_line
-put_named-at-requires-3 c =
+named-requires-3 c =
     omega (arith, simp length-append at c.requires)
 
-pub put_named-at-requires-4 : goal.put_named-at-requires-4
+pub named-requires-4 : goal.named-requires-4
 unfolding head_line
-put_named-at-requires-4 c =
+named-requires-4 c =
     omega (arith, simp length-append at c.requires)
 
-pub put_named-at-requires-5 : goal.put_named-at-requires-5
+pub named-requires-5 : goal.named-requires-5
 unfolding head_line
-put_named-at-requires-5 c =
+named-requires-5 c =
     omega (arith, simp length-append at c.requires)
 
 pub end_line-requires : goal.end_line-requires
@@ -45,8 +45,8 @@ returns c =
     put_then
     (put_then
     (put_then
-    (put_then (put_then c.put_named-at.ensures c.put_named-at-2.ensures)
-    c.put_named-at-3.ensures)
-    c.put_named-at-4.ensures)
-    c.put_named-at-5.ensures)
+    (put_then (put_then c.named.ensures c.named-2.ensures)
+    c.named-3.ensures)
+    c.named-4.ensures)
+    c.named-5.ensures)
     c.end_line.ensures

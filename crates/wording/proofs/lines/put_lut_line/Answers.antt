@@ -5,34 +5,34 @@ use Rattle.wording.specs.paper.Text.{lut_line}
 use Rattle.wording.proofs.Puts.{put_then}
 use Rattle.wording.proofs.lines.put_lut_line.Goals as goal
 
-pub put_named-at-requires : goal.put_named-at-requires
+pub named-requires : goal.named-requires
 unfolding lut_line
-put_named-at-requires c =
+named-requires c =
     omega (arith, simp length-append at c.requires)
 
-pub put_named-at-requires-2 : goal.put_named-at-requires-2
+pub named-requires-2 : goal.named-requires-2
 unfolding lut_line
-put_named-at-requires-2 c =
+named-requires-2 c =
     omega (arith, simp length-append at c.requires)
 
-pub put_word-at-requires : goal.put_word-at-requires
+pub word-requires : goal.word-requires
 unfolding lut_line
-put_word-at-requires c =
+word-requires c =
     omega (arith, simp length-append at c.requires)
 
-pub put_leaves-at-requires : goal.put_leaves-at-requires
+pub put_leaves-requires : goal.put_leaves-requires
 unfolding lut_line
-put_leaves-at-requires c =
+put_leaves-requires c =
     omega (arith, simp length-append at c.requires)
 
-pub put_word-at-requires-2 : goal.put_word-at-requires-2
+pub word-requires-2 : goal.word-requires-2
 unfolding lut_line
-put_word-at-requires-2 c =
+word-requires-2 c =
     omega (arith, simp length-append at c.requires)
 
-pub put_hex16-at-requires : goal.put_hex16-at-requires
+pub hex16-requires : goal.hex16-requires
 unfolding lut_line
-put_hex16-at-requires c =
+hex16-requires c =
     omega (
       arith,
       simp length-append at
@@ -55,9 +55,9 @@ returns c =
     (put_then
     (put_then
     (put_then
-    (put_then (put_then c.put_named-at.ensures c.put_named-at-2.ensures)
-    c.put_word-at.ensures)
-    c.put_leaves-at.ensures)
-    c.put_word-at-2.ensures)
-    c.put_hex16-at.ensures)
+    (put_then (put_then c.named.ensures c.named-2.ensures)
+    c.word.ensures)
+    c.put_leaves.ensures)
+    c.word-2.ensures)
+    c.hex16.ensures)
     c.end_line.ensures

@@ -5,14 +5,14 @@ use Rattle.wording.specs.paper.Text.{output_line}
 use Rattle.wording.proofs.Puts.{put_then}
 use Rattle.wording.proofs.lines.put_output_line.Goals as goal
 
-pub put_named-at-requires : goal.put_named-at-requires
+pub named-requires : goal.named-requires
 unfolding output_line
-put_named-at-requires c =
+named-requires c =
     omega (arith, simp length-append at c.requires)
 
-pub put_named-at-requires-2 : goal.put_named-at-requires-2
+pub named-requires-2 : goal.named-requires-2
 unfolding output_line
-put_named-at-requires-2 c =
+named-requires-2 c =
     omega (arith, simp length-append at c.requires)
 
 pub end_line-requires : goal.end_line-requires
@@ -23,5 +23,5 @@ end_line-requires c =
 pub returns : goal.returns
 unfolding output_line
 returns c =
-    put_then (put_then c.put_named-at.ensures c.put_named-at-2.ensures)
+    put_then (put_then c.named.ensures c.named-2.ensures)
     c.end_line.ensures

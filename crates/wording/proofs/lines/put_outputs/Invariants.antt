@@ -1,15 +1,10 @@
 -- `put_outputs` meets its contract: what is left to put is the text of the other outputs.
-use Prim.Native.Nat.{◌≤◌, ◌-◌}
-use lib.ListN.{take, drop}
+use lib.ListN.{drop}
 use Rattle.wording.specs.paper.Text.{each}
 use Rattle.wording.specs.Arrays.{output_text}
 use Rattle.wording.proofs.Puts.{Left}
 use Rattle.wording.proofs.lines.put_outputs.Given as goal
 
-abbrev pub invariant-loop-i : goal.invariant-loop-i
-invariant-loop-i l = (l.i ≤ l.number)
-    × Left l.initial.text l.at (each (output_text l.labels) (take l.number l.outputs)) l.text l.next
-    (each (output_text l.labels) (drop l.i (take l.number l.outputs)))
-
-abbrev pub decreases-loop-i : goal.decreases-loop-i
-decreases-loop-i l = l.number - l.i
+abbrev pub invariant-loop-id : goal.invariant-loop-id
+invariant-loop-id l = Left l.initial.pen (each (output_text l.labels) l.outputs) l.pen
+    (each (output_text l.labels) (drop l.id-index l.outputs))

@@ -1,21 +1,21 @@
--- `put_named` meets its contract.
+-- `Pen::named` meets its contract.
 use native.Mathlib.Omega.{arith}
 use lib.ListN.{length-append}
 use Rattle.wording.specs.paper.Text.{decimal, numbered}
 use Rattle.wording.proofs.Puts.{put_then}
-use Rattle.wording.proofs.words.put_named.Goals as goal
+use Rattle.wording.proofs.words.Pen.named.Goals as goal
 
-pub put_word-next-requires : goal.put_word-next-requires
+pub word-requires : goal.word-requires
 unfolding numbered
-put_word-next-requires c =
+word-requires c =
     omega (arith, length-append c.args.word.now (decimal c.args.n))
 
-pub put_decimal-requires : goal.put_decimal-requires
+pub decimal-requires : goal.decimal-requires
 unfolding numbered
-put_decimal-requires c =
+decimal-requires c =
     omega (arith, length-append c.args.word.now (decimal c.args.n))
 
 pub returns : goal.returns
 unfolding numbered
 returns c =
-    put_then c.put_word-next.ensures c.put_decimal.ensures
+    put_then c.word.ensures c.decimal.ensures
