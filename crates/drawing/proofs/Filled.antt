@@ -18,7 +18,7 @@ use Rattle.drawing.specs.paper.Fields.{Verdict, gate_m, gate_ids, gate_at, gate_
 use Rattle.drawing.specs.paper.Reading.{gates_from, OutputsFound, outputs_from, no_more, with_output}
 use Rattle.drawing.specs.Reading.{Lines, lines_of, no_fanins, put_gate, put_gates}
 use Rattle.drawing.specs.Filling.{Ended, end_of, GateRead, gates_done, end_of_outputs}
-use Rattle.drawing.proofs.Ids.{length_ids, ids_left, ids_step}
+use Rattle.drawing.proofs.Ids.{length_ids, ids_left, step_left}
 use Rattle.drawing.proofs.SoundFields.{gate_sound, output_sound}
 
 -- The stores of a gate's line, as the code makes them: the number of its fanins, the fanins behind it, and the table.
@@ -183,6 +183,6 @@ module _ (s : List ℕ) (at width count : ℕ) (ids₀ : List ℕ) (to : ℕ) (i
   pub ids_turn : {id : ℕ} → i < count → id ≡ number_at s (at + i * width) width → IdsLeft s at width count ids₀ to (set ids (to + i) id) (i + 1)
   ids_turn {id} some read =
       kept
-      ∙ ap (sets ids (to + i)) (ids_step s at width count i some)
+      ∙ ap (sets ids (to + i)) (step_left s at width count i some)
       ∙ ap (λ (v : ℕ). sets (set ids (to + i) v) (suc (to + i)) (ids_left s at width count (i + 1))) (sym read)
       ∙ ap (λ (p : ℕ). sets (set ids (to + i) id) p (ids_left s at width count (i + 1))) (omega arith)

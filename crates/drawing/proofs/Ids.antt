@@ -34,6 +34,12 @@ small_two s at {width} {high} {low} narrow more inside b c =
 pub twice : {width : ℕ} (n : ℕ) → Narrow width → n * width ≤ n + n
 twice n narrow = omega (arith, mul-le-mul_left n narrow.few)
 
+pub from_one : (left : ℕ) → 0 < left → left ≡ suc (left - 1)
+from_one left some = omega (arith, some)
+
+pub one_less : (left width : ℕ) → 0 < left → (left - 1) * width + width ≡ left * width
+one_less left width some = sym (ap (λ (n : ℕ). n * width) (from_one left some) ∙ suc-mul (left - 1) width)
+
 -- a count whose ids take the bytes of one id or more
 pub some_id : (count width : ℕ) → 1 ≤ width → width ≤ count * width → 1 ≤ count
 some_id zero width wide whole = absurd (omega (arith, zero-mul width))
@@ -43,16 +49,23 @@ pub length_ids : (s : List ℕ) (at width count : ℕ) → length (ids_at s at w
 length_ids s at width zero = refl
 length_ids s at width (suc count) = ap suc (length_ids s (at + width) width count)
 
+module _ (s : List ℕ) (at width left : ℕ) where
+  pub ids_none : left ≤ 0 → ids_at s at width left ≡ []
+  ids_none none = let z : left ≡ 0 = omega arith in ap (ids_at s at width) z
+
+  pub ids_step : 0 < left → ids_at s at width left ≡ number_at s at width ∷ ids_at s (at + width) width (left - 1)
+  ids_step some = ap (ids_at s at width) (from_one left some)
+
 -- the ids from the i-th on
 module _ (s : List ℕ) (at width count i : ℕ) where
   abbrev pub ids_left : List ℕ
   ids_left = ids_at s (at + i * width) width (count - i)
 
-  pub ids_none : count ≤ i → ids_left ≡ []
-  ids_none none = let z : count - i ≡ 0 = omega arith in ap (ids_at s (at + i * width) width) z
+  pub none_left : count ≤ i → ids_left ≡ []
+  none_left none = let z : count - i ≡ 0 = omega arith in ap (ids_at s (at + i * width) width) z
 
-  pub ids_step : i < count → ids_left ≡ number_at s (at + i * width) width ∷ ids_at s (at + (i + 1) * width) width (count - (i + 1))
-  ids_step some =
+  pub step_left : i < count → ids_left ≡ number_at s (at + i * width) width ∷ ids_at s (at + (i + 1) * width) width (count - (i + 1))
+  step_left some =
       let n : count - i ≡ suc (count - (i + 1)) = omega arith in
       let next : at + i * width + width ≡ at + (i + 1) * width = omega (arith, suc-mul i width) in
       ap (ids_at s (at + i * width) width) n
@@ -61,13 +74,13 @@ module _ (s : List ℕ) (at width count i : ℕ) where
   module _ (nodes : ℕ) where
     pub below_none : count ≤ i → some_from nodes ids_left ≡ false
     unfolding some_from
-    below_none none = ap (some_from nodes) (ids_none none)
+    below_none none = ap (some_from nodes) (none_left none)
 
     module _ {id : ℕ} (some : i < count) (read : SmallAt s (at + i * width) width id) where
       pub below_stop : nodes ≤ id → some_from nodes ids_left ≡ true
       unfolding some_from
-      below_stop large = ap (some_from nodes) (ids_step some) ∙ rw (le-leb nodes (number_at s (at + i * width) width) (omega (arith, read.number)))
+      below_stop large = ap (some_from nodes) (step_left some) ∙ rw (le-leb nodes (number_at s (at + i * width) width) (omega (arith, read.number)))
 
       pub below_next : id < nodes → some_from nodes ids_left ≡ some_from nodes (ids_at s (at + (i + 1) * width) width (count - (i + 1)))
       unfolding some_from
-      below_next small = ap (some_from nodes) (ids_step some) ∙ rw (lt-leb nodes (number_at s (at + i * width) width) (omega (arith, read.number)))
+      below_next small = ap (some_from nodes) (step_left some) ∙ rw (lt-leb nodes (number_at s (at + i * width) width) (omega (arith, read.number)))

@@ -53,7 +53,8 @@ returns-in-Err-LoopAt c = let asked =
     (lists_loop
     (says c.take_table-taken.ensures (omega arith) (omega arith) (omega arith) (omega arith)
     (omega arith))
-    (let is : c.take_table-taken.result ≡ Err (LoopAt c.in-Err-LoopAt.gate) = search rules in is) c.if-text-lt-TEXT_ROOM.false c.write_refused-in-Err-LoopAt.ensures) in record { lists = asked.0; front = asked.1 }
+    (let is : c.take_table-taken.result ≡ Err (LoopAt c.in-Err-LoopAt.gate) = search rules in is)
+    c.if-text-lt-TEXT_ROOM.false c.write_refused-in-Err-LoopAt.ensures) in record { lists = asked.0; front = asked.1 }
 
 pub returns-in-Err-TooShort : goal.returns-in-Err-TooShort
 returns-in-Err-TooShort c =
