@@ -14,7 +14,7 @@ use storage::{Label, Node, Numbers};
 fn turned(inputs: usize, gate: Node, p: Label, node: Node, label: Label, role: u8) -> u8
     ensures { Becomes (IsDeep inputs gate.id p.depth node.id label.depth (met_bit role)) (met_bit role ≡ 1) result }
 {
-    if node.id == gate.id {
+    if node == gate {
         return DEEP;
     }
     if !says_met(role) {
@@ -23,7 +23,7 @@ fn turned(inputs: usize, gate: Node, p: Label, node: Node, label: Label, role: u
     if (node.id as usize) < inputs {
         return AREA;
     }
-    if label.depth == p.depth { DEEP } else { AREA }
+    if label == p { DEEP } else { AREA }
 }
 
 // Turns each node by itself: into D, the area or away.

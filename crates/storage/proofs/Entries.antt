@@ -49,14 +49,6 @@ part_place {v} n l m =
     let low : p.at < n = omega (arith, p.inside) in
     record { at = p.at; low = low; inside = omega (arith, p.inside); entry = sym (get_or-take n l p.at 0 low) ∙ p.entry }
 
--- a property of each of the first n entries is one of their members
-pub each_of_part : (P : ℕ → Type 0) (n : ℕ) (l : List ℕ) → ((i : ℕ) → i < n → P (get_or l i 0)) → (v : ℕ) → Memᴰ v (take n l) → P v
-each_of_part P n l each v m = let p = part_place n l m in subst P p.entry (each p.at p.low)
-
--- none of the first n entries is v
-pub none_of_part : (n : ℕ) (l : List ℕ) (v : ℕ) → ((i : ℕ) → i < n → get_or l i 0 ≡ v → ⊥) → Memᴰ v (take n l) → ⊥
-none_of_part n l v none m = let p = part_place n l m in none p.at p.low p.entry
-
 -- what is left of two lists agrees, so their entries do
 pub drop_agrees : (n : ℕ) (l m : List ℕ) → drop n l ≡ drop n m → (v : ℕ) → n ≤ v → get_or l v 0 ≡ get_or m v 0
 drop_agrees n l m same v far =

@@ -22,9 +22,6 @@ tells_yes p = record { yes = λ _. p; no = λ e _. true≢false e }
 pub tells_no : {P : Type 0} → (P → ⊥) → Tells P false
 tells_no none = record { yes = λ e. absurd (false≢true e); no = λ _. none }
 
-pub tells_implied : {P Q : Type 0} {r : Bool} → P → Tells Q r → Tells (P → Q) r
-tells_implied p t = record { yes = λ e _. t.yes e; no = λ e implied. t.no e (implied p) }
-
 pub tells_one : {P : Type 0} (a b : Bool) → Tells P a → Tells P b → a ≡ b
 tells_one true true p q = refl
 tells_one false false p q = refl

@@ -25,10 +25,6 @@ bit_tells : (b : Bool) → Tells (bit b ≡ 1) b
 bit_tells true = tells_yes refl
 bit_tells false = tells_no (λ e. omega arith)
 
-bit_test : (b : Bool) → b ≡ eqb (bit b) 1
-bit_test true = refl
-bit_test false = refl
-
 module _ (r : ℕ) where
   pub walked_or : (walked_bit r ≡ 0) ⊎ (walked_bit r ≡ 1)
   unfolding walked_bit
@@ -38,21 +34,9 @@ module _ (r : ℕ) where
   unfolding met_bit
   met_or = bit_or (eqb r 2 || eqb r 3)
 
--- The roles of a walk, by the code's tests
+-- The roles of a walk
 
 module _ {r : ℕ} where
-  pub walked_only : r ≡ 1 → walked_bit r ≡ 1
-  unfolding walked_bit
-  walked_only e = ap walked_bit e
-
-  pub walked_both : (r ≡ 1 → ⊥) → Tells (walked_bit r ≡ 1) (eqb r 3)
-  unfolding walked_bit
-  walked_both apart = rw (ne_eqb r 1 apart) (bit_tells (eqb r 3))
-
-  pub met_only : r ≡ 2 → met_bit r ≡ 1
-  unfolding met_bit
-  met_only e = ap met_bit e
-
   pub met_both : (r ≡ 2 → ⊥) → Tells (met_bit r ≡ 1) (eqb r 3)
   unfolding met_bit
   met_both apart = rw (ne_eqb r 2 apart) (bit_tells (eqb r 3))
@@ -106,26 +90,11 @@ module _ (roles : List ℕ) (v : ℕ) where
   pub met_bit_lem : (get_or (met_in roles) v 0 ≡ 0) ⊎ (get_or (met_in roles) v 0 ≡ 1)
   met_bit_lem = rw met_at (met_or (get_or roles v 0))
 
-  -- The area and its ends, by the code's tests
-
-  pub area_role : get_or roles v 0 ≡ 5 → true ≡ eqb (get_or (area_in roles) v 0) 1
-  unfolding area_bit
-  area_role e = rw (area_at, e)
-
-  pub other_role : (get_or roles v 0 ≡ 5 → ⊥) → eqb (get_or roles v 0) 6 ≡ eqb (get_or (area_in roles) v 0) 1
-  unfolding area_bit
-  other_role apart = rw (area_at, ne_eqb (get_or roles v 0) 5 apart) (bit_test (eqb (get_or roles v 0) 6))
+  -- The area and its ends
 
   pub end_role : get_or roles v 0 ≡ 6 → get_or (ends_in roles) v 0 ≡ 1
   unfolding end_bit
   end_role e = ends_at ∙ ap end_bit e
-
-  pub end_test : get_or roles v 0 ≡ 6 → true ≡ eqb (get_or (ends_in roles) v 0) 1
-  end_test e = rw (end_role e)
-
-  pub taken_end_test : (get_or roles v 0 ≡ 6 → ⊥) → eqb (get_or roles v 0) 8 ≡ eqb (get_or (ends_in roles) v 0) 1
-  unfolding end_bit
-  taken_end_test apart = rw (ends_at, ne_eqb (get_or roles v 0) 6 apart) (bit_test (eqb (get_or roles v 0) 8))
 
   -- an end that no path has taken
   pub role_of_end : get_or (ends_in roles) v 0 ≡ 1 → get_or (area_in roles) v 0 ≡ 1 → get_or roles v 0 ≡ 6

@@ -39,7 +39,7 @@ pub fn put_label(labels: &mut [u16], node: Node, label: Label)
 pub fn larger(a: Label, b: Label) -> Label
     ensures { result.depth ≡ max a.depth b.depth }
 {
-    if a.depth < b.depth { b } else { a }
+    a.max(b)
 }
 
 // The label of a gate one above.

@@ -24,26 +24,21 @@ pub const TAKEN: u8 = 7;
 
 pub const TAKEN_END: u8 = 8;
 
+#[tactic(auto, unfolding(crate::specs::Roles::walked_bit))]
 pub fn is_walked(roles: &[u8], node: Node) -> bool
     requires { node.id < length roles.now }
     ensures { Tells (get_or (walked_in roles.now) node.id 0 ≡ 1) result }
 {
     let v = node.id as usize;
-    let role = roles[v];
-    if role == WALKED {
-        return true;
-    }
-    role == BOTH
+    matches!(roles[v], WALKED | BOTH)
 }
 
 // Is this the role of a node that a walk has met?
+#[tactic(auto, unfolding(crate::specs::Roles::met_bit))]
 pub fn says_met(role: u8) -> bool
     ensures { Tells (met_bit role ≡ 1) result }
 {
-    if role == MET {
-        return true;
-    }
-    role == BOTH
+    matches!(role, MET | BOTH)
 }
 
 pub fn is_met(roles: &[u8], node: Node) -> bool
@@ -55,27 +50,21 @@ pub fn is_met(roles: &[u8], node: Node) -> bool
 }
 
 // May a path pass the node: does it lie in the area, and has no path taken it?
+#[tactic(auto, unfolding(crate::specs::Roles::area_bit))]
 pub fn is_free(roles: &[u8], node: Node) -> bool
     requires { node.id < length roles.now }
     ensures { result ≡ eqb (get_or (area_in roles.now) node.id 0) 1 }
 {
     let v = node.id as usize;
-    let role = roles[v];
-    if role == AREA {
-        return true;
-    }
-    role == END
+    matches!(roles[v], AREA | END)
 }
 
 // May a path end at the node? An end that is taken stays an end.
+#[tactic(auto, unfolding(crate::specs::Roles::end_bit))]
 pub fn is_end(roles: &[u8], node: Node) -> bool
     requires { node.id < length roles.now }
     ensures { result ≡ eqb (get_or (ends_in roles.now) node.id 0) 1 }
 {
     let v = node.id as usize;
-    let role = roles[v];
-    if role == END {
-        return true;
-    }
-    role == TAKEN_END
+    matches!(roles[v], END | TAKEN_END)
 }
