@@ -23,7 +23,7 @@ pub fn start_of(column: Column, nodes: usize) -> usize
     column as usize * nodes
 }
 
-// A state that was not found has this for its number.
+// A state that was not found has this for its number: a column is lent, of plain numbers, so no Option stands in it (fixed memory).
 pub const NOT_FOUND: u16 = 0;
 
 // What a link says: nothing; the edge of the flow, which is the sink ahead and the source behind; or a node.

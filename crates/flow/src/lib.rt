@@ -16,8 +16,8 @@ use storage::{CutSize, Numbers, fill};
 // How many columns the links have.
 const COLUMNS: usize = 5;
 
-// Finds the mapper's cut outside D, and answers how many leaves it has; or K + 1 paths, which show that no cut lies outside D. `roles` mark the nodes behind the gate outside D and those of them that feed D; `links` has
-// five places for each node, and `cut` has room for six leaves.
+// Finds the mapper's cut outside D, and answers how many leaves it has; or K + 1 paths, which show that there is none. `roles` mark the nodes behind
+// the gate outside D and those of them that feed D; `links` has five places for each node, and `cut` has room for six leaves.
 pub fn find(
     numbers: Numbers,
     fanins: &[u16],

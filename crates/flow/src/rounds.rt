@@ -9,7 +9,7 @@ use crate::cells::{Column, NOT_FOUND, at, clear};
 use storage::lists::put_node;
 use storage::{CutSize, Node, Numbers};
 
-// Full with fewer than K + 1 paths: as many as the least cut has leaves; or none, with K + 1.
+// How many paths there are where the flow is full with at most K, as many as the least cut has leaves; nothing where there are K + 1.
 pub fn run(
     numbers: Numbers,
     fanins: &[u16],

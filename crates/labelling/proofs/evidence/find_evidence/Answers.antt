@@ -11,10 +11,6 @@ pub probe_gate-requires : goal.probe_gate-requires
 probe_gate-requires c =
     evidence_asked c.requires _ c.peak-p.ensures (omega arith)
 
-pub fill-requires : goal.fill-requires
-fill-requires c =
-    omega (arith, c.probe_gate.ensures.roles_used.size, c.requires.roles_long)
-
 pub returns : goal.returns
 returns c =
     evidence_found c.requires c.probe_gate.ensures c.fill.ensures

@@ -41,14 +41,6 @@ shape_of-cuts-in_default c =
     ∙ turn_length c.requires c.peak-p.ensures (omega (arith, c.if-p-eq0.false))
     c.probe_gate-shown.ensures
 
-pub shape_of-roles-in_default : goal.shape_of-roles-in_default
-shape_of-roles-in_default c =
-    c.probe_gate-shown.ensures.roles_used.size
-
-pub shape_of-links-in_default : goal.shape_of-links-in_default
-shape_of-links-in_default c =
-    c.probe_gate-shown.ensures.links_used.size
-
 pub returns-in_default : goal.returns-in_default
 returns-in_default c =
     turn_paths c.requires c.peak-p.ensures (omega (arith, c.if-p-eq0.false))
@@ -64,14 +56,6 @@ put_size-requires c =
     let same = turn_length c.requires c.peak-p.ensures (omega (arith, c.if-p-eq0.false))
     c.probe_gate-shown.ensures in
     omega (arith, list_here c.requires)
-
-pub shape_of-roles : goal.shape_of-roles
-shape_of-roles c =
-    c.probe_gate-shown.ensures.roles_used.size
-
-pub shape_of-links : goal.shape_of-links
-shape_of-links c =
-    c.probe_gate-shown.ensures.links_used.size
 
 pub returns : goal.returns
 returns c =

@@ -23,11 +23,5 @@ shape_of-labels c = labels_size c.requires c.loop-id.invariant
 pub shape_of-cuts : goal.shape_of-cuts
 shape_of-cuts c = cuts_size c.requires c.loop-id.invariant
 
-pub shape_of-roles : goal.shape_of-roles
-shape_of-roles c = c.loop-id.invariant.roles_used.size
-
-pub shape_of-links : goal.shape_of-links
-shape_of-links c = c.loop-id.invariant.links_used.size
-
 pub returns : goal.returns
 returns c = along_all (omega (arith, gates_number c.requires.drawing)) c.loop-id.invariant
