@@ -62,9 +62,6 @@ pub record Left (p₀ : Pen) (all : List ℕ) (p : Pen) (rest : List ℕ) : Type
   pub place : p₀.at + length all ≡ p.at + length rest
   pub same : sets p₀.text.now p₀.at all ≡ sets p.text.now p.at rest
 
-pub left_start : (p : Pen) (all : List ℕ) → Room p all → Left p all p all
-left_start p all fits = record { lent = refl; size = refl; fits = fits; place = refl; same = refl }
-
 module _ {p₀ : Pen} {all : List ℕ} {p : Pen} {rest : List ℕ} (left : Left p₀ all p rest) where
   pub left_room : (xs more : List ℕ) → rest ≡ xs ++ more → Room p xs
   left_room xs more e = omega (arith, left.fits, ap length e, length-append xs more)
