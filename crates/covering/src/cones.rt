@@ -6,7 +6,7 @@ ghost use Rattle.theory.specs.paper.Values.{bit, row_of, result_at};
 ghost use Rattle.covering.specs.Cones.{ConeAsked, ConeAnswered, value_in, RowFits, GateFits, GateSettled, SweepFits, Swept, LeavesFit, LeavesSet, FirstPlace};
 
 use storage::lists::{PLACES, node_at, size_at};
-use storage::{CutSize, Node, Numbers, fill};
+use storage::{CutSize, Net, Node, fill};
 
 // The result of a table at a row.
 fn result_at(table: u64, row: u64) -> u64
@@ -94,30 +94,28 @@ fn sweep(fanins: &[u16], rows: &[u64], order: &[u16], upto: usize, values: &mut 
 // The table of the cone of `gate` over the first `size` leaves, row by row; gates that come after `gate` in the order are not computed.
 // Whatever the values held, their first `nodes` words are left at 0. (A word a node is room for all rows at once.)
 pub fn cone_table(
-    numbers: Numbers,
-    fanins: &[u16],
+    net: Net,
     rows: &[u64],
-    order: &[u16],
     gate: Node,
     leaves: &[u16],
     size: CutSize,
     values: &mut [u64],
 ) -> u64
-    requires { ConeAsked numbers.inputs numbers.nodes numbers.k.leaves fanins.now rows.now order.now gate.id
+    requires { ConeAsked net.numbers.inputs net.numbers.nodes net.numbers.k.leaves net.fanins.now rows.now net.order.now gate.id
         leaves.now size.leaves (length values.old) }
-    ensures { ConeAnswered numbers.inputs numbers.nodes fanins.now rows.now gate.id
+    ensures { ConeAnswered net.entry.numbers.inputs net.entry.numbers.nodes net.entry.fanins.now rows.now gate.id
         leaves.now size.leaves values.old result values.new }
 {
-    fill(values, numbers.nodes, 0);
-    let upto = place_of(order, gate) + 1;
+    fill(values, net.numbers.nodes, 0);
+    let upto = place_of(net.order, gate) + 1;
     let all = rows_of(size);
     let at = gate.id as usize;
     let mut table: u64 = 0;
     for row in 0..all {
         set_leaves(leaves, size, row, values);
-        sweep(fanins, rows, order, upto, values);
+        sweep(net.fanins, rows, net.order, upto, values);
         table = with_row(table, row, values[at] % 2);
     }
-    fill(values, numbers.nodes, 0);
+    fill(values, net.numbers.nodes, 0);
     table
 }

@@ -5,7 +5,7 @@ ghost use Rattle.flow.specs.Augments.{FreeAsked, FreedIn, StepAsked, SteppedIn, 
 
 use crate::cells::{Column, Link, link_at, put_link};
 use crate::searching::search;
-use storage::{Node, Numbers};
+use storage::{Net, Node};
 
 // Sends v to the sink. The answer starts at the source then: v itself, where it was unused, or the node that it fed.
 fn free(nodes: usize, links: &mut [u16], v: Node) -> Node
@@ -38,24 +38,18 @@ fn step_back(nodes: usize, links: &mut [u16], loose: Node, v: Node) -> Node
 }
 
 // One round: a search, and the path that it found. Answers whether there was one.
-pub fn add_path(
-    numbers: Numbers,
-    fanins: &[u16],
-    order: &[u16],
-    roles: &[u8],
-    links: &mut [u16],
-) -> bool
-    requires { RoundAsked numbers.inputs numbers.nodes fanins.now order.now roles.now links.old }
-    ensures round_done { RoundDone numbers.inputs numbers.nodes fanins.now roles.now links.old result links.new }
-    ensures beyond { Beyond (5 * numbers.nodes) links.old links.new }
+pub fn add_path(net: Net, roles: &[u8], links: &mut [u16]) -> bool
+    requires { RoundAsked net.numbers.inputs net.numbers.nodes net.fanins.now net.order.now roles.now links.old }
+    ensures round_done { RoundDone net.entry.numbers.inputs net.entry.numbers.nodes net.entry.fanins.now roles.now links.old result links.new }
+    ensures beyond { Beyond (5 * net.entry.numbers.nodes) links.old links.new }
 {
-    let sought = search(numbers, fanins, order, roles, links);
+    let sought = search(net, roles, links);
     let Some(end) = sought else {
         return false;
     };
-    let mut loose = free(numbers.nodes, links, end);
-    while let Link::To(v) = link_at(links, numbers.nodes, Column::Parent, loose) {
-        loose = step_back(numbers.nodes, links, loose, v);
+    let mut loose = free(net.numbers.nodes, links, end);
+    while let Link::To(v) = link_at(links, net.numbers.nodes, Column::Parent, loose) {
+        loose = step_back(net.numbers.nodes, links, loose, v);
     }
     true
 }

@@ -11,28 +11,28 @@ ghost use Rattle.flow.specs.Reads.{ReadAsked, PathRead};
 ghost use Rattle.flow.specs.Answer.{FlowAsked, FlowAnswer};
 
 use crate::cells::Column;
-use storage::{CutSize, Numbers, fill};
+use storage::{CutSize, Net, Numbers, fill};
 
 // How many columns the links have.
 const COLUMNS: usize = 5;
 
 // Finds the mapper's cut outside D, and answers how many leaves it has; or K + 1 paths, which show that there is none. `roles` mark the nodes behind
 // the gate outside D and those of them that feed D; `links` has five places for each node, and `cut` has room for six leaves.
-pub fn find(
-    numbers: Numbers,
-    fanins: &[u16],
-    order: &[u16],
-    roles: &[u8],
-    links: &mut [u16],
-    cut: &mut [u16],
-) -> Option<CutSize>
-    requires { FlowAsked numbers.inputs numbers.nodes numbers.k.leaves fanins.now order.now roles.now links.old cut.old }
-    ensures { FlowAnswer numbers.inputs numbers.nodes numbers.k.leaves fanins.now roles.now
+pub fn find(net: Net, roles: &[u8], links: &mut [u16], cut: &mut [u16]) -> Option<CutSize>
+    requires { FlowAsked net.numbers.inputs net.numbers.nodes net.numbers.k.leaves net.fanins.now net.order.now roles.now links.old cut.old }
+    ensures { FlowAnswer net.entry.numbers.inputs net.entry.numbers.nodes net.entry.numbers.k.leaves net.entry.fanins.now roles.now
         links.old cut.old result links.new cut.new }
 {
-    let nodes = numbers.nodes;
-    let gates = nodes - numbers.inputs;
-    let outcome = rounds::run(numbers, fanins, &order[..gates], &roles[..nodes], links);
+    let nodes = net.numbers.nodes;
+    let gates = nodes - net.numbers.inputs;
+    let outcome = rounds::run(
+        Net {
+            order: &net.order[..gates],
+            ..net
+        },
+        &roles[..nodes],
+        links,
+    );
     let Some(size) = outcome else {
         cells::clear(links, nodes, Column::Ins, 3);
         return None;

@@ -7,24 +7,18 @@ ghost use Rattle.flow.specs.Rounds.{RunAsked, Ran, leaves_in, LeafPut, LeafAsked
 use crate::augmenting::add_path;
 use crate::cells::{Column, NOT_FOUND, at, clear};
 use storage::lists::put_node;
-use storage::{CutSize, Node, Numbers};
+use storage::{CutSize, Net, Node};
 
 // How many paths there are where the flow is full with at most K, as many as the least cut has leaves; nothing where there are K + 1.
-pub fn run(
-    numbers: Numbers,
-    fanins: &[u16],
-    order: &[u16],
-    roles: &[u8],
-    links: &mut [u16],
-) -> Option<CutSize>
-    requires { RunAsked numbers.inputs numbers.nodes numbers.k.leaves fanins.now order.now roles.now links.old }
-    ensures ran { Ran numbers.inputs numbers.nodes numbers.k.leaves fanins.now roles.now result links.new }
-    ensures beyond { Beyond (5 * numbers.nodes) links.old links.new }
+pub fn run(net: Net, roles: &[u8], links: &mut [u16]) -> Option<CutSize>
+    requires { RunAsked net.numbers.inputs net.numbers.nodes net.numbers.k.leaves net.fanins.now net.order.now roles.now links.old }
+    ensures ran { Ran net.entry.numbers.inputs net.entry.numbers.nodes net.entry.numbers.k.leaves net.entry.fanins.now roles.now result links.new }
+    ensures beyond { Beyond (5 * net.entry.numbers.nodes) links.old links.new }
 {
-    clear(links, numbers.nodes, Column::Next, 2);
-    let rounds = numbers.k.leaves + 1;
+    clear(links, net.numbers.nodes, Column::Next, 2);
+    let rounds = net.numbers.k.leaves + 1;
     for number in 0..rounds {
-        if !add_path(numbers, fanins, order, roles, links) {
+        if !add_path(net, roles, links) {
             return Some(CutSize { leaves: number });
         }
     }

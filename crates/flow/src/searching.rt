@@ -12,7 +12,7 @@ use crate::cells::{Column, Link, NOT_FOUND, at, clear, link_at, put, put_link};
 use std::ops::ControlFlow;
 use storage::lists::{entry_at, size_at};
 use storage::roles::{END, is_free};
-use storage::{Node, Numbers};
+use storage::{Net, Node, Numbers};
 
 // A fanin of v whose out-state was found.
 fn found_fanin(numbers: Numbers, fanins: &[u16], links: &[u16], v: Node) -> Option<Node>
@@ -153,19 +153,12 @@ fn is_reached(nodes: usize, roles: &[u8], links: &[u16], v: Node) -> bool
 }
 
 // One sweep over inputs and order, from the last number given so far: the end that it reached, or the last number that it gave.
-fn sweep(
-    numbers: Numbers,
-    fanins: &[u16],
-    order: &[u16],
-    roles: &[u8],
-    links: &mut [u16],
-    number: u16,
-) -> ControlFlow<Node, u16>
-    requires { SweepAsked numbers.inputs numbers.nodes fanins.now order.now roles.now links.old number }
-    ensures swept_so { SweptSo numbers.inputs numbers.nodes fanins.now roles.now number result links.new }
-    ensures paths_kept { PathsKept numbers.nodes links.old links.new }
+fn sweep(net: Net, roles: &[u8], links: &mut [u16], number: u16) -> ControlFlow<Node, u16>
+    requires { SweepAsked net.numbers.inputs net.numbers.nodes net.fanins.now net.order.now roles.now links.old number }
+    ensures swept_so { SweptSo net.entry.numbers.inputs net.entry.numbers.nodes net.entry.fanins.now roles.now number result links.new }
+    ensures paths_kept { PathsKept net.entry.numbers.nodes links.old links.new }
 {
-    let nodes = numbers.nodes;
+    let nodes = net.numbers.nodes;
     let mut last = number;
     for i in 0..numbers.inputs {
         let v = Node { id: i as u16 };
@@ -174,9 +167,9 @@ fn sweep(
             return ControlFlow::Break(v);
         }
     }
-    for id in order {
+    for id in net.order {
         let v = Node { id: *id };
-        last = visit_gate(numbers, fanins, roles, links, v, last);
+        last = visit_gate(net.numbers, net.fanins, roles, links, v, last);
         if is_reached(nodes, roles, links, v) {
             return ControlFlow::Break(v);
         }
@@ -185,21 +178,15 @@ fn sweep(
 }
 
 // Sweeps until an end is reached or a sweep gives no number.
-pub fn search(
-    numbers: Numbers,
-    fanins: &[u16],
-    order: &[u16],
-    roles: &[u8],
-    links: &mut [u16],
-) -> Option<Node>
-    requires { SearchAsked numbers.inputs numbers.nodes fanins.now order.now roles.now links.old }
-    ensures sought_so { SoughtSo numbers.inputs numbers.nodes fanins.now roles.now result links.new }
-    ensures paths_kept { PathsKept numbers.nodes links.old links.new }
+pub fn search(net: Net, roles: &[u8], links: &mut [u16]) -> Option<Node>
+    requires { SearchAsked net.numbers.inputs net.numbers.nodes net.fanins.now net.order.now roles.now links.old }
+    ensures sought_so { SoughtSo net.entry.numbers.inputs net.entry.numbers.nodes net.entry.fanins.now roles.now result links.new }
+    ensures paths_kept { PathsKept net.entry.numbers.nodes links.old links.new }
 {
-    clear(links, numbers.nodes, Column::Ins, 2);
+    clear(links, net.numbers.nodes, Column::Ins, 2);
     let mut number: u16 = 0;
     loop {
-        match sweep(numbers, fanins, order, roles, links, number) {
+        match sweep(net, roles, links, number) {
             ControlFlow::Break(end) => return Some(end),
             ControlFlow::Continue(last) if last == number => return None,
             ControlFlow::Continue(last) => number = last,

@@ -18,7 +18,7 @@ use judging::{Broken, judge_gates};
 use shaping::{Terms, judge_shape, load_sheet};
 use sheet::limits::MOST_DEPTH;
 use sheet::{Fault, narrow_form};
-use storage::{Label, Node, Numbers};
+use storage::{Label, Net, Node, Numbers};
 use taking::{TakeError, take_table};
 use weighing::luts::{LutFault, judge_luts};
 use weighing::whole::{WholeFault, judge_whole};
@@ -41,10 +41,8 @@ pub enum Inspection {
 
 // Passes three and four, on a sheet in arrays. The roles are scratch: for the walks, then for the gates that the cover needs.
 fn judge_last(
-    numbers: Numbers,
-    fanins: &[u16],
+    net: Net,
     rows: &[u64],
-    order: &[u16],
     outputs: &[u16],
     labels: &[u16],
     luts: &[u8],
@@ -53,32 +51,22 @@ fn judge_last(
     head: Label,
     roles: &mut [u8],
 ) -> Inspection
-    requires { LastAsked numbers.k.leaves numbers.inputs numbers.nodes numbers.roots
-        fanins.now rows.now outputs.now order.now labels.now luts.now cuts.now tables.now head.depth roles.old }
-    ensures { LastRuled numbers.k.leaves numbers.inputs numbers.nodes fanins.now rows.now
-        (take numbers.roots outputs.now) labels.now luts.now cuts.now tables.now
+    requires { LastAsked net.numbers.k.leaves net.numbers.inputs net.numbers.nodes net.numbers.roots
+        net.fanins.now rows.now outputs.now net.order.now labels.now luts.now cuts.now tables.now head.depth roles.old }
+    ensures { LastRuled net.entry.numbers.k.leaves net.entry.numbers.inputs net.entry.numbers.nodes net.entry.fanins.now rows.now
+        (take net.entry.numbers.roots outputs.now) labels.now luts.now cuts.now tables.now
         head.depth result }
 {
     let mut values = [0u64; MOST_NODES];
-    let third = judge_luts(
-        numbers,
-        fanins,
-        rows,
-        order,
-        luts,
-        cuts,
-        tables,
-        roles,
-        &mut values,
-    );
+    let third = judge_luts(net, rows, luts, cuts, tables, roles, &mut values);
     match third {
         Err(LutFault::Cut(root)) => Inspection::Cut(root),
         Err(LutFault::Function(root)) => Inspection::Function(root),
         Ok(()) => {
             let mut depths = [0u16; MOST_NODES];
             let fourth = judge_whole(
-                numbers,
-                order,
+                net.numbers,
+                net.order,
                 luts,
                 cuts,
                 outputs,
@@ -109,42 +97,31 @@ fn terms_for(numbers: Numbers) -> Terms
 
 // Pass two, on a sheet of the paper's form.
 fn judge_lines(
-    numbers: Numbers,
-    fanins: &[u16],
-    order: &[u16],
+    net: Net,
     labels: &[u16],
     cuts: &[u16],
     places: &[u32],
     sheet: &[u8],
 ) -> Result<(), Broken>
-    requires nodes_le_most_nodes { numbers.nodes ≤ most_nodes }
-    requires by_index { (roles : List ℕ) → numbers.nodes ≤ length roles → JudgeAsked numbers.k.leaves numbers.inputs numbers.nodes
-        fanins.now order.now (lined_of narrow labels.now cuts.now places.now sheet.now) roles }
-    ensures { JudgesHeld numbers.k.leaves numbers.inputs numbers.nodes fanins.now
+    requires nodes_le_most_nodes { net.numbers.nodes ≤ most_nodes }
+    requires by_index { (roles : List ℕ) → net.numbers.nodes ≤ length roles → JudgeAsked net.numbers.k.leaves net.numbers.inputs net.numbers.nodes
+        net.fanins.now net.order.now (lined_of narrow labels.now cuts.now places.now sheet.now) roles }
+    ensures { JudgesHeld net.entry.numbers.k.leaves net.entry.numbers.inputs net.entry.numbers.nodes net.entry.fanins.now
         (lined_of narrow labels.now cuts.now places.now sheet.now)
-        (gates (net_in numbers.inputs numbers.nodes fanins.now)) result }
+        (gates (net_in net.entry.numbers.inputs net.entry.numbers.nodes net.entry.fanins.now)) result }
 {
     let form = narrow_form();
     let mut roles = [0u8; MOST_NODES];
-    judge_gates(
-        form, numbers, fanins, order, labels, cuts, places, sheet, &mut roles,
-    )
+    judge_gates(net, form, labels, cuts, places, sheet, &mut roles)
 }
 
 // A sheet of sound shape is loaded once, and all later passes read the arrays: pass two, and for the paths of a line its bytes; then three
 // and four.
-fn judge_rules(
-    numbers: Numbers,
-    fanins: &[u16],
-    rows: &[u64],
-    outputs: &[u16],
-    order: &[u16],
-    sheet: &[u8],
-) -> Inspection
-    requires { RulesAsked numbers.k.leaves numbers.inputs numbers.nodes numbers.roots
-        fanins.now rows.now outputs.now order.now sheet.now }
-    ensures { SheetRuled numbers.k.leaves numbers.inputs numbers.nodes fanins.now rows.now
-        (take numbers.roots outputs.now) sheet.now result }
+fn judge_rules(net: Net, rows: &[u64], outputs: &[u16], sheet: &[u8]) -> Inspection
+    requires { RulesAsked net.numbers.k.leaves net.numbers.inputs net.numbers.nodes net.numbers.roots
+        net.fanins.now rows.now outputs.now net.order.now sheet.now }
+    ensures { SheetRuled net.entry.numbers.k.leaves net.entry.numbers.inputs net.entry.numbers.nodes net.entry.fanins.now rows.now
+        (take net.entry.numbers.roots outputs.now) sheet.now result }
 {
     let mut labels = [0u16; MOST_NODES];
     let mut cuts = [0u16; MOST_PLACES];
@@ -153,7 +130,7 @@ fn judge_rules(
     let mut lut_cuts = [0u16; MOST_PLACES];
     let mut tables = [0u64; MOST_NODES];
     let head = load_sheet(
-        terms_for(numbers),
+        terms_for(net.numbers),
         sheet,
         &mut labels,
         &mut cuts,
@@ -162,36 +139,28 @@ fn judge_rules(
         &mut lut_cuts,
         &mut tables,
     );
-    let second = judge_lines(numbers, fanins, order, &labels, &cuts, &places, sheet);
+    let second = judge_lines(net, &labels, &cuts, &places, sheet);
     let mut roles = [0u8; MOST_NODES];
     match second {
         Err(Broken::Cut(gate)) => Inspection::Cut(gate),
         Err(Broken::Label(gate)) => Inspection::Label(gate),
         Err(Broken::Paths(gate)) => Inspection::Paths(gate),
         Ok(()) => judge_last(
-            numbers, fanins, rows, order, outputs, &labels, &luts, &lut_cuts, &tables, head,
-            &mut roles,
+            net, rows, outputs, &labels, &luts, &lut_cuts, &tables, head, &mut roles,
         ),
     }
 }
 
 // Pass one, then the others, for a table that was taken.
-fn judge_sheet(
-    numbers: Numbers,
-    fanins: &[u16],
-    rows: &[u64],
-    outputs: &[u16],
-    order: &[u16],
-    sheet: &[u8],
-) -> Inspection
-    requires { TableLaid numbers.k.leaves numbers.inputs numbers.nodes numbers.roots
-        fanins.now rows.now outputs.now order.now }
-    ensures { SheetRuled numbers.k.leaves numbers.inputs numbers.nodes fanins.now rows.now
-        (take numbers.roots outputs.now) sheet.now result }
+fn judge_sheet(net: Net, rows: &[u64], outputs: &[u16], sheet: &[u8]) -> Inspection
+    requires { TableLaid net.numbers.k.leaves net.numbers.inputs net.numbers.nodes net.numbers.roots
+        net.fanins.now rows.now outputs.now net.order.now }
+    ensures { SheetRuled net.entry.numbers.k.leaves net.entry.numbers.inputs net.entry.numbers.nodes net.entry.fanins.now rows.now
+        (take net.entry.numbers.roots outputs.now) sheet.now result }
 {
-    match judge_shape(terms_for(numbers), sheet) {
+    match judge_shape(terms_for(net.numbers), sheet) {
         Err(fault) => Inspection::Shape(fault),
-        Ok(()) => judge_rules(numbers, fanins, rows, outputs, order, sheet),
+        Ok(()) => judge_rules(net, rows, outputs, sheet),
     }
 }
 
@@ -218,6 +187,15 @@ pub fn inspect(table: &[u8], sheet: &[u8]) -> Inspection
         Err(TakeError::LoopAt(gate)) => Inspection::LoopAt(gate),
         // never given: the arrays have the lengths that `take_table` asks
         Err(TakeError::TooShort) => Inspection::Depth,
-        Ok(numbers) => judge_sheet(numbers, &fanins, &rows, &outputs, &order, sheet),
+        Ok(numbers) => judge_sheet(
+            Net {
+                numbers,
+                fanins: &fanins,
+                order: &order,
+            },
+            &rows,
+            &outputs,
+            sheet,
+        ),
     }
 }

@@ -10,7 +10,7 @@ ghost use Rattle.sheet.specs.paper.Rules.{gates};
 ghost use Rattle.judging.specs.Gates.{lined_of, JudgeAsked, GateAsked, GatesTried, GatesJudged};
 
 use sheet::Form;
-use storage::{Node, Numbers, fill};
+use storage::{Net, Node, fill};
 
 // A rule that is not kept, with its gate.
 #[derive(Clone, Copy)]
@@ -22,10 +22,8 @@ pub enum Broken {
 
 // The three rules at one gate.
 fn judge_gate(
+    net: Net,
     form: Form,
-    numbers: Numbers,
-    fanins: &[u16],
-    order: &[u16],
     labels: &[u16],
     cuts: &[u16],
     places: &[u32],
@@ -33,23 +31,21 @@ fn judge_gate(
     gate: Node,
     roles: &mut [u8],
 ) -> Result<(), Broken>
-    requires { GateAsked numbers.k.leaves numbers.inputs numbers.nodes fanins.now order.now
+    requires { GateAsked net.numbers.k.leaves net.numbers.inputs net.numbers.nodes net.fanins.now net.order.now
         (lined_of form labels.now cuts.now places.now sheet.now) gate.id roles.old }
-    ensures { GatesTried numbers.k.leaves numbers.inputs numbers.nodes fanins.now
+    ensures { GatesTried net.entry.numbers.k.leaves net.entry.numbers.inputs net.entry.numbers.nodes net.entry.fanins.now
         (lined_of form labels.now cuts.now places.now sheet.now) (gate.id ∷ []) roles.old result roles.new }
 {
-    if !rules::keeps_cut(numbers, fanins, order, gate, cuts, roles) {
+    if !rules::keeps_cut(net, gate, cuts, roles) {
         return Err(Broken::Cut(gate));
     }
-    let p = area::peak(fanins, gate, labels);
+    let p = area::peak(net.fanins, gate, labels);
     if !rules::keeps_label(labels, cuts, gate, p) {
         return Err(Broken::Label(gate));
     }
     let v = gate.id as usize;
     let at = places[v] as usize;
-    if !rules::keeps_paths(
-        form, numbers, fanins, order, labels, gate, p, sheet, at, roles,
-    ) {
+    if !rules::keeps_paths(net, form, labels, gate, p, sheet, at, roles) {
         return Err(Broken::Paths(gate));
     }
     Ok(())
@@ -57,27 +53,23 @@ fn judge_gate(
 
 // The three rules at each gate, gates rising.
 fn first_broken(
+    net: Net,
     form: Form,
-    numbers: Numbers,
-    fanins: &[u16],
-    order: &[u16],
     labels: &[u16],
     cuts: &[u16],
     places: &[u32],
     sheet: &[u8],
     roles: &mut [u8],
 ) -> Result<(), Broken>
-    requires { JudgeAsked numbers.k.leaves numbers.inputs numbers.nodes fanins.now order.now
+    requires { JudgeAsked net.numbers.k.leaves net.numbers.inputs net.numbers.nodes net.fanins.now net.order.now
         (lined_of form labels.now cuts.now places.now sheet.now) roles.old }
-    ensures { GatesTried numbers.k.leaves numbers.inputs numbers.nodes fanins.now
+    ensures { GatesTried net.entry.numbers.k.leaves net.entry.numbers.inputs net.entry.numbers.nodes net.entry.fanins.now
         (lined_of form labels.now cuts.now places.now sheet.now)
-        (gates (net_in numbers.inputs numbers.nodes fanins.now)) roles.old result roles.new }
+        (gates (net_in net.entry.numbers.inputs net.entry.numbers.nodes net.entry.fanins.now)) roles.old result roles.new }
 {
-    for t in numbers.inputs..numbers.nodes {
+    for t in net.numbers.inputs..numbers.nodes {
         let gate = Node { id: t as u16 };
-        judge_gate(
-            form, numbers, fanins, order, labels, cuts, places, sheet, gate, roles,
-        )?;
+        judge_gate(net, form, labels, cuts, places, sheet, gate, roles)?;
     }
     Ok(())
 }
@@ -86,24 +78,20 @@ fn first_broken(
 // the bytes at `places`. Each gate costs a walk of the drawing, and each path's node its fanins. Whatever the roles held, their first
 // `nodes` entries are left at 0.
 pub fn judge_gates(
+    net: Net,
     form: Form,
-    numbers: Numbers,
-    fanins: &[u16],
-    order: &[u16],
     labels: &[u16],
     cuts: &[u16],
     places: &[u32],
     sheet: &[u8],
     roles: &mut [u8],
 ) -> Result<(), Broken>
-    requires { JudgeAsked numbers.k.leaves numbers.inputs numbers.nodes fanins.now order.now
+    requires { JudgeAsked net.numbers.k.leaves net.numbers.inputs net.numbers.nodes net.fanins.now net.order.now
         (lined_of form labels.now cuts.now places.now sheet.now) roles.old }
-    ensures { GatesJudged numbers.k.leaves numbers.inputs numbers.nodes fanins.now
+    ensures { GatesJudged net.entry.numbers.k.leaves net.entry.numbers.inputs net.entry.numbers.nodes net.entry.fanins.now
         (lined_of form labels.now cuts.now places.now sheet.now) roles.old result roles.new }
 {
-    let found = first_broken(
-        form, numbers, fanins, order, labels, cuts, places, sheet, roles,
-    );
-    fill(roles, numbers.nodes, 0);
+    let found = first_broken(net, form, labels, cuts, places, sheet, roles);
+    fill(roles, net.numbers.nodes, 0);
     found
 }

@@ -15,24 +15,17 @@ use drawing::bytes::number_at;
 use sheet::Form;
 use storage::lists::{PLACES, cut_size, size_at};
 use storage::marks::label_of;
-use storage::{CutSize, Label, Node, Numbers};
+use storage::{CutSize, Label, Net, Node};
 
 // 25: are the leaves of the gate's line a cut of the gate?
-pub fn keeps_cut(
-    numbers: Numbers,
-    fanins: &[u16],
-    order: &[u16],
-    gate: Node,
-    cuts: &[u16],
-    roles: &mut [u8],
-) -> bool
-    requires { CutAsked numbers.inputs numbers.nodes numbers.k.leaves fanins.now order.now gate.id cuts.now roles.old }
-    ensures { CutRuled (net_in numbers.inputs numbers.nodes fanins.now) numbers.k.leaves (list_at cuts.now gate.id) gate.id
+pub fn keeps_cut(net: Net, gate: Node, cuts: &[u16], roles: &mut [u8]) -> bool
+    requires { CutAsked net.numbers.inputs net.numbers.nodes net.numbers.k.leaves net.fanins.now net.order.now gate.id cuts.now roles.old }
+    ensures { CutRuled (net_in net.entry.numbers.inputs net.entry.numbers.nodes net.entry.fanins.now) net.entry.numbers.k.leaves (list_at cuts.now gate.id) gate.id
         roles.old result roles.new }
 {
     let size = cut_size(cuts, gate);
     let from = PLACES * (gate.id as usize) + 1;
-    walking::is_cut(numbers, fanins, order, gate, &cuts[from..], size, roles)
+    walking::is_cut(net, gate, &cuts[from..], size, roles)
 }
 
 // 26: is the gate's label 1 + the greatest label of its leaves, and p or p + 1?
@@ -68,9 +61,7 @@ fn paths_place(form: Form, sheet: &[u8], at: usize) -> usize
 // Are the `q` paths from a place on true, with no node on two? What lies behind the gate is walked afresh, with no leaves, and the paths
 // take their nodes from the area.
 fn has_evidence(
-    numbers: Numbers,
-    fanins: &[u16],
-    order: &[u16],
+    net: Net,
     gate: Node,
     labels: &[u16],
     p: Label,
@@ -80,24 +71,22 @@ fn has_evidence(
     q: usize,
     roles: &mut [u8],
 ) -> bool
-    requires { EvidenceAsked numbers.inputs numbers.nodes numbers.k.leaves fanins.now order.now
+    requires { EvidenceAsked net.numbers.inputs net.numbers.nodes net.numbers.k.leaves net.fanins.now net.order.now
         gate.id labels.now p.depth sheet.now at width q roles.old }
-    ensures { Told numbers.nodes
-        (TruePaths (net_in numbers.inputs numbers.nodes fanins.now) (label_in labels.now) gate.id (paths_at sheet.now at width q))
+    ensures { Told net.entry.numbers.nodes
+        (TruePaths (net_in net.entry.numbers.inputs net.entry.numbers.nodes net.entry.fanins.now) (label_in labels.now) gate.id (paths_at sheet.now at width q))
         roles.old result roles.new }
 {
     let none = CutSize { leaves: 0 };
-    walking::walk(numbers, fanins, order, gate, labels, none, roles);
-    area::mark_area(numbers, fanins, gate, labels, p, roles);
-    are_paths(fanins, numbers.inputs, sheet, at, width, q, roles)
+    walking::walk(net, gate, labels, none, roles);
+    area::mark_area(net.numbers, net.fanins, gate, labels, p, roles);
+    are_paths(net.fanins, net.numbers.inputs, sheet, at, width, q, roles)
 }
 
 // 27: is evidence given exactly where it is due, and then true?
 pub fn keeps_paths(
+    net: Net,
     form: Form,
-    numbers: Numbers,
-    fanins: &[u16],
-    order: &[u16],
     labels: &[u16],
     gate: Node,
     p: Label,
@@ -105,10 +94,10 @@ pub fn keeps_paths(
     at: usize,
     roles: &mut [u8],
 ) -> bool
-    requires { PathsRuleAsked form numbers.inputs numbers.nodes numbers.k.leaves fanins.now order.now
+    requires { PathsRuleAsked form net.numbers.inputs net.numbers.nodes net.numbers.k.leaves net.fanins.now net.order.now
         gate.id labels.now p.depth sheet.now at roles.old }
-    ensures { Told numbers.nodes
-        (PathsKept (net_in numbers.inputs numbers.nodes fanins.now) numbers.k.leaves (label_in labels.now) gate.id
+    ensures { Told net.entry.numbers.nodes
+        (PathsKept (net_in net.entry.numbers.inputs net.entry.numbers.nodes net.entry.fanins.now) net.entry.numbers.k.leaves (label_in labels.now) gate.id
         (line_paths_in form sheet.now at))
         roles.old result roles.new }
 {
@@ -118,23 +107,11 @@ pub fn keeps_paths(
     if !owes(labels, gate, p) {
         return q == 0;
     }
-    let k = numbers.k;
+    let k = net.numbers.k;
     if q != k.leaves as usize + 1 {
         return false;
     }
-    has_evidence(
-        numbers,
-        fanins,
-        order,
-        gate,
-        labels,
-        p,
-        sheet,
-        place + 1,
-        width,
-        q,
-        roles,
-    )
+    has_evidence(net, gate, labels, p, sheet, place + 1, width, q, roles)
 }
 
 // Does the gate owe evidence: is its label p + 1, and p at least 1?

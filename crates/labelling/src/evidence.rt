@@ -2,28 +2,18 @@
 ghost use Rattle.labelling.specs.Evidence.{EvidenceAsked, EvidenceFound};
 
 use crate::probing::probe_gate;
-use storage::{Node, Numbers, fill};
+use storage::{Net, Node, fill};
 
 // Evidence for a gate that owes it, left in the links; a second search, so that no evidence is kept from gate to gate.
-pub fn find_evidence(
-    numbers: Numbers,
-    fanins: &[u16],
-    order: &[u16],
-    gate: Node,
-    labels: &[u16],
-    roles: &mut [u8],
-    links: &mut [u16],
-)
-    requires { EvidenceAsked numbers.inputs numbers.nodes numbers.k.leaves fanins.now order.now
+pub fn find_evidence(net: Net, gate: Node, labels: &[u16], roles: &mut [u8], links: &mut [u16])
+    requires { EvidenceAsked net.numbers.inputs net.numbers.nodes net.numbers.k.leaves net.fanins.now net.order.now
         labels.now gate.id roles.old links.old }
-    ensures { EvidenceFound numbers.inputs numbers.nodes numbers.k.leaves fanins.now
+    ensures { EvidenceFound net.entry.numbers.inputs net.entry.numbers.nodes net.entry.numbers.k.leaves net.entry.fanins.now
         labels.now gate.id roles.old links.old roles.new
         links.new }
 {
-    let p = area::peak(fanins, gate, labels);
+    let p = area::peak(net.fanins, gate, labels);
     let mut cut = [0u16; 6];
-    probe_gate(
-        numbers, fanins, order, gate, p, labels, roles, links, &mut cut,
-    );
-    fill(roles, numbers.nodes, 0);
+    probe_gate(net, gate, p, labels, roles, links, &mut cut);
+    fill(roles, net.numbers.nodes, 0);
 }

@@ -1,13 +1,11 @@
 // A gate's probe: what lies behind it, D and the area, and then the flow.
 ghost use Rattle.labelling.specs.Probing.{ProbeAsked, GateProbed};
 
-use storage::{CutSize, Label, Node, Numbers};
+use storage::{CutSize, Label, Net, Node};
 
 // `cut` has room for six leaves. The walk has no leaves, so any list will do for it.
 pub fn probe_gate(
-    numbers: Numbers,
-    fanins: &[u16],
-    order: &[u16],
+    net: Net,
     gate: Node,
     p: Label,
     labels: &[u16],
@@ -15,14 +13,14 @@ pub fn probe_gate(
     links: &mut [u16],
     cut: &mut [u16],
 ) -> Option<CutSize>
-    requires { ProbeAsked numbers.inputs numbers.nodes numbers.k.leaves fanins.now order.now
+    requires { ProbeAsked net.numbers.inputs net.numbers.nodes net.numbers.k.leaves net.fanins.now net.order.now
         gate.id p.depth labels.now roles.old links.old cut.old }
-    ensures { GateProbed numbers.inputs numbers.nodes numbers.k.leaves fanins.now
+    ensures { GateProbed net.entry.numbers.inputs net.entry.numbers.nodes net.entry.numbers.k.leaves net.entry.fanins.now
         gate.id labels.now roles.old links.old cut.old result
         roles.new links.new cut.new }
 {
     let none = CutSize { leaves: 0 };
-    walking::walk(numbers, fanins, order, gate, labels, none, roles);
-    area::mark_area(numbers, fanins, gate, labels, p, roles);
-    flow::find(numbers, fanins, order, roles, links, cut)
+    walking::walk(net, gate, labels, none, roles);
+    area::mark_area(net.numbers, net.fanins, gate, labels, p, roles);
+    flow::find(net, roles, links, cut)
 }

@@ -6,45 +6,33 @@ use crate::probing::probe_gate;
 use crate::store_above;
 use storage::lists::{PLACES, put_size};
 use storage::marks::put_label;
-use storage::{Node, Numbers};
+use storage::{Net, Node};
 
 // "If p is 0 it is 1. Otherwise .. the label is p exactly when a cut of t exists with all leaves outside D." The flow
 // writes its cut to the gate's places.
 fn settle(
-    numbers: Numbers,
-    fanins: &[u16],
-    order: &[u16],
+    net: Net,
     gate: Node,
     labels: &mut [u16],
     cuts: &mut [u16],
     roles: &mut [u8],
     links: &mut [u16],
 )
-    requires { TurnAsked numbers.inputs numbers.nodes numbers.k.leaves fanins.now order.now
+    requires { TurnAsked net.numbers.inputs net.numbers.nodes net.numbers.k.leaves net.fanins.now net.order.now
         gate.id labels.old cuts.old roles.old links.old }
-    ensures { TurnTaken numbers.inputs numbers.nodes numbers.k.leaves fanins.now
+    ensures { TurnTaken net.entry.numbers.inputs net.entry.numbers.nodes net.entry.numbers.k.leaves net.entry.fanins.now
         gate.id labels.old cuts.old roles.old links.old
         labels.new cuts.new roles.new links.new }
 {
-    let p = area::peak(fanins, gate, labels);
+    let p = area::peak(net.fanins, gate, labels);
     if p.depth == 0 {
-        store_above(fanins, gate, p, labels, cuts);
+        store_above(net.fanins, gate, p, labels, cuts);
         return;
     }
     let at = PLACES * (gate.id as usize) + 1;
-    let shown = probe_gate(
-        numbers,
-        fanins,
-        order,
-        gate,
-        p,
-        labels,
-        roles,
-        links,
-        &mut cuts[at..],
-    );
+    let shown = probe_gate(net, gate, p, labels, roles, links, &mut cuts[at..]);
     let Some(size) = shown else {
-        store_above(fanins, gate, p, labels, cuts);
+        store_above(net.fanins, gate, p, labels, cuts);
         return;
     };
     put_label(labels, gate, p);
@@ -53,24 +41,22 @@ fn settle(
 
 // Each gate's turn, along the order: what lies behind a gate has its labels when the gate's turn comes.
 pub fn settle_all(
-    numbers: Numbers,
-    fanins: &[u16],
-    order: &[u16],
+    net: Net,
     labels: &mut [u16],
     cuts: &mut [u16],
     roles: &mut [u8],
     links: &mut [u16],
 )
-    requires { AlongAsked numbers.inputs numbers.nodes numbers.k.leaves fanins.now order.now
+    requires { AlongAsked net.numbers.inputs net.numbers.nodes net.numbers.k.leaves net.fanins.now net.order.now
         labels.old cuts.old roles.old links.old }
-    ensures { Along numbers.inputs numbers.nodes numbers.k.leaves fanins.now
-        order.now (numbers.nodes - numbers.inputs) labels.old cuts.old
+    ensures { Along net.entry.numbers.inputs net.entry.numbers.nodes net.entry.numbers.k.leaves net.entry.fanins.now
+        net.entry.order.now (net.entry.numbers.nodes - net.entry.numbers.inputs) labels.old cuts.old
         roles.old links.old labels.new cuts.new roles.new
         links.new }
 {
-    let gates = numbers.nodes - numbers.inputs;
-    for id in &order[..gates] {
+    let gates = net.numbers.nodes - net.numbers.inputs;
+    for id in &net.order[..gates] {
         let gate = Node { id: *id };
-        settle(numbers, fanins, order, gate, labels, cuts, roles, links);
+        settle(net, gate, labels, cuts, roles, links);
     }
 }

@@ -9,7 +9,7 @@ use drawing::limits::{MOST_NODES, MOST_OUTPUTS, MOST_PLACES};
 use drawing::refusals::{number_of, place_of};
 use packing::map_gates;
 use settling::{MOST_LINKS, MOST_WORDS};
-use storage::Numbers;
+use storage::{Net, Numbers};
 use taking::{LOOP, TakeError, take_table};
 use wording::{list_mapping, write_refused};
 
@@ -17,16 +17,9 @@ use wording::{list_mapping, write_refused};
 pub const TEXT_ROOM: usize = 18595;
 
 // Lists a table that was taken: stage one of the mapper, and its text. No evidence is looked for.
-fn list_taken(
-    numbers: Numbers,
-    fanins: &[u16],
-    rows: &[u64],
-    order: &[u16],
-    outputs: &[u16],
-    text: &mut [u8],
-) -> usize
-    requires { ListAsked numbers fanins.now rows.now order.now outputs.now text.old }
-    ensures { TakenListed numbers fanins.now rows.now outputs.now text.old result text.new }
+fn list_taken(net: Net, rows: &[u64], outputs: &[u16], text: &mut [u8]) -> usize
+    requires { ListAsked net.numbers net.fanins.now rows.now net.order.now outputs.now text.old }
+    ensures { TakenListed net.entry.numbers net.entry.fanins.now rows.now outputs.now text.old result text.new }
 {
     let mut labels = [0u16; MOST_NODES];
     let mut cuts = [0u16; MOST_PLACES];
@@ -35,10 +28,8 @@ fn list_taken(
     let mut luts = [0u8; MOST_NODES];
     let mut words = [0u64; MOST_WORDS];
     let made = map_gates(
-        numbers,
-        fanins,
+        net,
         rows,
-        order,
         outputs,
         &mut labels,
         &mut cuts,
@@ -47,9 +38,9 @@ fn list_taken(
         &mut luts,
         &mut words,
     );
-    let tables_at = numbers.nodes;
+    let tables_at = net.numbers.nodes;
     list_mapping(
-        numbers,
+        net.numbers,
         &labels,
         &cuts,
         &luts,
@@ -84,7 +75,16 @@ pub fn list(table: &[u8], text: &mut [u8]) -> usize
         &mut marks,
     );
     match taken {
-        Ok(numbers) => list_taken(numbers, &fanins, &rows, &order, &outputs, text),
+        Ok(numbers) => list_taken(
+            Net {
+                numbers,
+                fanins: &fanins,
+                order: &order,
+            },
+            &rows,
+            &outputs,
+            text,
+        ),
         Err(TakeError::Refused(r)) => write_refused(number_of(r), place_of(r), text),
         Err(TakeError::LoopAt(gate)) => write_refused(LOOP, gate.id as u64, text),
         // never given: the arrays have the lengths that `take_table` asks

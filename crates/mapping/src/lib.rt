@@ -17,7 +17,7 @@ use drawing::Refusal;
 use drawing::limits::{MOST_NODES, MOST_OUTPUTS, MOST_PLACES};
 use settling::{MOST_LINKS, MOST_WORDS};
 use sheet::limits::SHEET_ROOM;
-use storage::{Node, Numbers};
+use storage::{Net, Node};
 use taking::{TakeError, take_table};
 
 // A table mapped, with the sheet's length; or refused; or the lowest gate on a loop; or a sheet buffer that is too short.
@@ -30,16 +30,9 @@ pub enum Reply {
 }
 
 // Maps a table that was taken: Room comes last of the refusals.
-fn map_taken(
-    numbers: Numbers,
-    fanins: &[u16],
-    rows: &[u64],
-    order: &[u16],
-    outputs: &[u16],
-    sheet: &mut [u8],
-) -> Reply
-    requires { TakenAsked numbers fanins.now rows.now order.now outputs.now }
-    ensures { TakenMapped numbers fanins.now rows.now outputs.now sheet.old result sheet.new }
+fn map_taken(net: Net, rows: &[u64], outputs: &[u16], sheet: &mut [u8]) -> Reply
+    requires { TakenAsked net.numbers net.fanins.now rows.now net.order.now outputs.now }
+    ensures { TakenMapped net.entry.numbers net.entry.fanins.now rows.now outputs.now sheet.old result sheet.new }
 {
     if sheet.len() < SHEET_ROOM {
         return Reply::Room;
@@ -51,10 +44,8 @@ fn map_taken(
     let mut luts = [0u8; MOST_NODES];
     let mut words = [0u64; MOST_WORDS];
     let length = map_drawing(
-        numbers,
-        fanins,
+        net,
         rows,
-        order,
         outputs,
         &mut labels,
         &mut cuts,
@@ -85,7 +76,16 @@ pub fn map(table: &[u8], sheet: &mut [u8]) -> Reply
         &mut marks,
     );
     match taken {
-        Ok(numbers) => map_taken(numbers, &fanins, &rows, &order, &outputs, sheet),
+        Ok(numbers) => map_taken(
+            Net {
+                numbers,
+                fanins: &fanins,
+                order: &order,
+            },
+            &rows,
+            &outputs,
+            sheet,
+        ),
         Err(TakeError::Refused(r)) => Reply::Refused(r),
         Err(TakeError::LoopAt(gate)) => Reply::LoopAt(gate),
         // never given: the arrays have the lengths that `take_table` asks

@@ -9,14 +9,12 @@ use labelling::owes_evidence;
 use sheet::Form;
 use storage::lists::{PLACES, cut_size};
 use storage::marks::label_of;
-use storage::{Node, Numbers};
+use storage::{Net, Node};
 
 // One gate's line; the evidence is looked for only where it is due.
 fn write_line(
+    net: Net,
     form: Form,
-    numbers: Numbers,
-    fanins: &[u16],
-    order: &[u16],
     gate: Node,
     labels: &[u16],
     cuts: &[u16],
@@ -25,29 +23,27 @@ fn write_line(
     sheet: &mut [u8],
     at: usize,
 ) -> usize
-    requires { LineAsked form numbers.inputs numbers.nodes numbers.k.leaves fanins.now order.now
+    requires { LineAsked form net.numbers.inputs net.numbers.nodes net.numbers.k.leaves net.fanins.now net.order.now
         gate.id labels.now cuts.now roles.old links.old sheet.old at }
-    ensures { LineWritten form (net_in numbers.inputs numbers.nodes fanins.now)
-        numbers.k.leaves labels.now cuts.now gate.id sheet.old at
+    ensures { LineWritten form (net_in net.entry.numbers.inputs net.entry.numbers.nodes net.entry.fanins.now)
+        net.entry.numbers.k.leaves labels.now cuts.now gate.id sheet.old at
         sheet.new result }
 {
     let from = PLACES * (gate.id as usize) + 1;
     let size = cut_size(cuts, gate);
     let label = label_of(labels, gate);
-    let p = peak(fanins, gate, labels);
+    let p = peak(net.fanins, gate, labels);
     if !owes_evidence(p, label) {
         return write_bare(form, label, cuts, from, size, sheet, at);
     }
-    find_evidence(numbers, fanins, order, gate, labels, roles, links);
-    write_proven(form, numbers, label, cuts, from, size, links, sheet, at)
+    find_evidence(net, gate, labels, roles, links);
+    write_proven(form, net.numbers, label, cuts, from, size, links, sheet, at)
 }
 
 // The lines of all gates, in id order.
 pub fn write_lines(
+    net: Net,
     form: Form,
-    numbers: Numbers,
-    fanins: &[u16],
-    order: &[u16],
     labels: &[u16],
     cuts: &[u16],
     roles: &mut [u8],
@@ -55,18 +51,16 @@ pub fn write_lines(
     sheet: &mut [u8],
     at: usize,
 ) -> usize
-    requires { LinesAsked form numbers.inputs numbers.nodes numbers.k.leaves fanins.now order.now
+    requires { LinesAsked form net.numbers.inputs net.numbers.nodes net.numbers.k.leaves net.fanins.now net.order.now
         labels.now cuts.now roles.old links.old sheet.old at }
-    ensures { LinesWritten form (net_in numbers.inputs numbers.nodes fanins.now)
-        numbers.k.leaves labels.now cuts.now numbers.nodes sheet.old at
+    ensures { LinesWritten form (net_in net.entry.numbers.inputs net.entry.numbers.nodes net.entry.fanins.now)
+        net.entry.numbers.k.leaves labels.now cuts.now net.entry.numbers.nodes sheet.old at
         sheet.new result }
 {
     let mut to = at;
-    for v in numbers.inputs..numbers.nodes {
+    for v in net.numbers.inputs..numbers.nodes {
         let gate = Node { id: v as u16 };
-        to = write_line(
-            form, numbers, fanins, order, gate, labels, cuts, roles, links, sheet, to,
-        );
+        to = write_line(net, form, gate, labels, cuts, roles, links, sheet, to);
     }
     to
 }

@@ -5,14 +5,12 @@ ghost use Rattle.mapping.specs.Sheets.{DrawingAsked, DrawingMapped};
 use crate::writing::write_sheet;
 use packing::map_gates;
 use sheet::narrow_form;
-use storage::Numbers;
+use storage::{Net, Numbers};
 
 // Maps the drawing that the arrays hold.
 pub fn map_drawing(
-    numbers: Numbers,
-    fanins: &[u16],
+    net: Net,
     rows: &[u64],
-    order: &[u16],
     outputs: &[u16],
     labels: &mut [u16],
     cuts: &mut [u16],
@@ -22,22 +20,18 @@ pub fn map_drawing(
     words: &mut [u64],
     sheet: &mut [u8],
 ) -> usize
-    requires { DrawingAsked numbers.inputs numbers.nodes numbers.k.leaves fanins.now rows.now
-        order.now outputs.now numbers.roots (made_of labels.old cuts.old luts.old words.old)
+    requires { DrawingAsked net.numbers.inputs net.numbers.nodes net.numbers.k.leaves net.fanins.now rows.now
+        net.order.now outputs.now net.numbers.roots (made_of labels.old cuts.old luts.old words.old)
         roles.old links.old sheet.old }
-    ensures { DrawingMapped numbers.inputs numbers.nodes numbers.k.leaves fanins.now
-        rows.now outputs.now numbers.roots sheet.old result sheet.new }
+    ensures { DrawingMapped net.entry.numbers.inputs net.entry.numbers.nodes net.entry.numbers.k.leaves net.entry.fanins.now
+        rows.now outputs.now net.entry.numbers.roots sheet.old result sheet.new }
 {
-    let made = map_gates(
-        numbers, fanins, rows, order, outputs, labels, cuts, roles, links, luts, words,
-    );
+    let made = map_gates(net, rows, outputs, labels, cuts, roles, links, luts, words);
     let form = narrow_form();
-    let tables_at = numbers.nodes;
+    let tables_at = net.numbers.nodes;
     write_sheet(
+        net,
         form,
-        numbers,
-        fanins,
-        order,
         labels,
         cuts,
         roles,

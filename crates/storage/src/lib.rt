@@ -32,6 +32,14 @@ pub struct Numbers {
     pub roots: usize,
 }
 
+// A drawing's net as arrays hold it: its numbers, the fanins of each node, and an order of its gates, fanins first.
+#[derive(Clone, Copy)]
+pub struct Net<'a> {
+    pub numbers: Numbers,
+    pub fanins: &'a [u16],
+    pub order: &'a [u16],
+}
+
 // The first `size` entries become `value`.
 pub fn fill<T: Copy>(entries: &mut [T], size: usize, value: T)
     requires { size ≤ length entries.old }

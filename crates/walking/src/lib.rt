@@ -13,7 +13,7 @@ ghost use Rattle.walking.specs.Promises.{OrderRoom, OrderMade, WalkRoom, WalkMad
 
 use storage::lists::node_at;
 use storage::roles::WALKED;
-use storage::{CutSize, Node, Numbers, fill};
+use storage::{CutSize, Net, Node, Numbers, fill};
 
 // Orders the gates by sweeps, fanins first, into the first entries of `order`; `Err` names the lowest gate that reaches itself. A drawing without a loop costs its sweeps alone:
 // one where fanins have lower ids, as many as gates in a chain that is numbered backwards. Only where gates are left over is a
@@ -43,55 +43,39 @@ pub fn order_gates(
 
 // Walks back from `root` and stops at the leaves, in one pass back along the order: the roles say which nodes are walked and which
 // are met. With no leaves, the nodes met are those behind it.
-pub fn walk(
-    numbers: Numbers,
-    fanins: &[u16],
-    order: &[u16],
-    root: Node,
-    leaves: &[u16],
-    size: CutSize,
-    roles: &mut [u8],
-)
-    requires { WalkRoom numbers.inputs numbers.nodes numbers.k.leaves fanins.now order.now root.id leaves.now size.leaves roles.old }
-    ensures { WalkMade (net_in numbers.inputs numbers.nodes fanins.now) (take size.leaves leaves.now) root.id
+pub fn walk(net: Net, root: Node, leaves: &[u16], size: CutSize, roles: &mut [u8])
+    requires { WalkRoom net.numbers.inputs net.numbers.nodes net.numbers.k.leaves net.fanins.now net.order.now root.id leaves.now size.leaves roles.old }
+    ensures { WalkMade (net_in net.entry.numbers.inputs net.entry.numbers.nodes net.entry.fanins.now) (take size.leaves leaves.now) root.id
         roles.old roles.new }
 {
-    let inputs = numbers.inputs;
-    let nodes = numbers.nodes;
+    let inputs = net.numbers.inputs;
+    let nodes = net.numbers.nodes;
     fill(roles, nodes, 0);
     let start = root.id as usize;
     roles[start] = WALKED;
     for i in (0..nodes - inputs).rev() {
-        cones::pass(fanins, node_at(order, i), leaves, size, roles);
+        cones::pass(net.fanins, node_at(net.order, i), leaves, size, roles);
     }
 }
 
 // Is the list of leaves a cut of the gate, with at most K leaves? The roles are left as `walk` leaves them.
-pub fn is_cut(
-    numbers: Numbers,
-    fanins: &[u16],
-    order: &[u16],
-    gate: Node,
-    leaves: &[u16],
-    size: CutSize,
-    roles: &mut [u8],
-) -> bool
-    requires { WalkRoom numbers.inputs numbers.nodes numbers.k.leaves fanins.now order.now gate.id leaves.now size.leaves roles.old }
-    ensures { CutRuled (net_in numbers.inputs numbers.nodes fanins.now) numbers.k.leaves (take size.leaves leaves.now) gate.id
+pub fn is_cut(net: Net, gate: Node, leaves: &[u16], size: CutSize, roles: &mut [u8]) -> bool
+    requires { WalkRoom net.numbers.inputs net.numbers.nodes net.numbers.k.leaves net.fanins.now net.order.now gate.id leaves.now size.leaves roles.old }
+    ensures { CutRuled (net_in net.entry.numbers.inputs net.entry.numbers.nodes net.entry.fanins.now) net.entry.numbers.k.leaves (take size.leaves leaves.now) gate.id
         roles.old result roles.new }
 {
-    walk(numbers, fanins, order, gate, leaves, size, roles);
+    walk(net, gate, leaves, size, roles);
     if size.leaves == 0 {
         return false;
     }
-    if size.leaves > numbers.k.leaves {
+    if size.leaves > net.numbers.k.leaves {
         return false;
     }
     if !cones::is_rising(leaves, size) {
         return false;
     }
-    if !cones::leaves_met(leaves, size, numbers.nodes, roles) {
+    if !cones::leaves_met(leaves, size, net.numbers.nodes, roles) {
         return false;
     }
-    cones::inputs_stop(leaves, size, numbers.inputs, roles)
+    cones::inputs_stop(leaves, size, net.numbers.inputs, roles)
 }

@@ -11,7 +11,7 @@ pub slice_bounds-run-end : goal.slice_bounds-run-end
 slice_bounds-run-end c =
     let a = c.args in
     let long = c.requires.drawing.order_long in
-    sym (length-take-le (a.numbers.nodes - a.numbers.inputs) a.order.now (omega arith))
+    sym (length-take-le (a.net.numbers.nodes - a.net.numbers.inputs) a.net.order.now (omega arith))
 
 pub run-outcome-requires : goal.run-outcome-requires
 run-outcome-requires c =

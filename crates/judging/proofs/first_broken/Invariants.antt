@@ -4,5 +4,5 @@ use Rattle.judging.proofs.Passes.{Trying}
 use Rattle.judging.proofs.first_broken.Given as goal
 
 abbrev pub invariant-loop-t : goal.invariant-loop-t
-invariant-loop-t l = Trying l.numbers.k.leaves l.numbers.inputs l.numbers.nodes l.fanins (lined_of l.form l.labels l.cuts l.places l.sheet)
+invariant-loop-t l = Trying l.net.numbers.k.leaves l.net.numbers.inputs l.net.numbers.nodes l.net.fanins.now (lined_of l.form l.labels l.cuts l.places l.sheet)
     l.initial.roles l.t l.roles

@@ -14,12 +14,12 @@ list_mapping-requires c = let asked =
     mapping_asked c.requires c.map_gates-made.ensures
     (paper_arrays c.requires.taken (omega arith) (omega arith) (omega arith) (omega arith) (omega arith)
     (omega arith))
-    (384 - c.args.numbers.nodes) (omega (arith, c.requires.taken.nodes_most)) in record { held = asked.0; many_value = asked.1.0; roots_in_bounds = asked.1.1 }
+    (384 - c.args.net.numbers.nodes) (omega (arith, c.requires.taken.nodes_most)) in record { held = asked.0; many_value = asked.1.0; roots_in_bounds = asked.1.1 }
 
 pub returns : goal.returns
 returns c =
     taken_listed c.requires c.map_gates-made.ensures
     (paper_arrays c.requires.taken (omega arith) (omega arith) (omega arith) (omega arith) (omega arith)
     (omega arith))
-    (384 - c.args.numbers.nodes) (omega (arith, c.requires.taken.nodes_most))
+    (384 - c.args.net.numbers.nodes) (omega (arith, c.requires.taken.nodes_most))
     c.list_mapping.ensures

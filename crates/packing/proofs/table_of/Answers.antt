@@ -6,7 +6,7 @@ use Rattle.packing.proofs.table_of.Goals as goal
 pub returns-then-luts-v-ne1 : goal.returns-then-luts-v-ne1
 returns-then-luts-v-ne1 c =
     let a = c.args in
-    no_table a.numbers.inputs a.numbers.nodes a.fanins.now a.rows.now a.cuts.now
+    no_table a.net.numbers.inputs a.net.numbers.nodes a.net.fanins.now a.rows.now a.cuts.now
     a.luts.now a.gate.id a.words.now (λ root. c.if-luts-v-ne1.true (omega (arith, root)))
 
 pub cut_size-requires : goal.cut_size-requires

@@ -32,7 +32,7 @@ returns c =
       reply = record {
         yes =
             λ e.
-            cut_whole p made (omega (arith, c.if-size-eq0.false)) (omega (arith, c.if-size-numbers.false)) rising met
+            cut_whole p made (omega (arith, c.if-size-eq0.false)) (omega (arith, c.if-size-net.false)) rising met
             (stop.yes e);
         no = λ e cut. stop.no e (cut_stops p made cut);
       };

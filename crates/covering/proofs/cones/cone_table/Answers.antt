@@ -30,7 +30,7 @@ set_leaves-requires c =
     let loop = c.loop-row in
     let a = c.args in
     let p = c.requires in
-    let same = ap length c.fill.ensures ∙ cleared_size a.numbers.nodes a.values.now p.values_long in
+    let same = ap length c.fill.ensures ∙ cleared_size a.net.numbers.nodes a.values.now p.values_long in
     rw (loop.invariant.rest.size, same) (leaves_fit p)
 
 pub sweep-requires : goal.sweep-requires
@@ -38,7 +38,7 @@ sweep-requires c =
     let loop = c.loop-row in
     let a = c.args in
     let p = c.requires in
-    let same = ap length c.fill.ensures ∙ cleared_size a.numbers.nodes a.values.now p.values_long in
+    let same = ap length c.fill.ensures ∙ cleared_size a.net.numbers.nodes a.values.now p.values_long in
     rw (c.set_leaves.ensures.long, loop.invariant.rest.size, same)
     (sweep_fits p (c.place_of-upto.result + 1) (upto_gates p c.place_of-upto.result c.place_of-upto.ensures))
 
@@ -47,8 +47,8 @@ bounds-values-at c =
     let loop = c.loop-row in
     let a = c.args in
     let p = c.requires in
-    let low = gate_below a.numbers.inputs a.numbers.nodes a.fanins.now p.gate in
-    let same = ap length c.fill.ensures ∙ cleared_size a.numbers.nodes a.values.now p.values_long in
+    let low = gate_below a.net.numbers.inputs a.net.numbers.nodes a.net.fanins.now p.gate in
+    let same = ap length c.fill.ensures ∙ cleared_size a.net.numbers.nodes a.values.now p.values_long in
     rw (c.sweep.ensures.long, c.set_leaves.ensures.long, loop.invariant.rest.size, same) (omega (arith, p.values_long))
 
 pub with_row-table-requires : goal.with_row-table-requires

@@ -55,7 +55,7 @@ returns c =
     let adds = augment_adds g flow end c.free-loose.ensures in record {
       round_done = RoundDone.more refl
           (subst
-          (FlowIn a.numbers.inputs a.numbers.nodes a.fanins.now a.roles.now c.loop-v.links)
+          (FlowIn a.net.numbers.inputs a.net.numbers.nodes a.net.fanins.now a.roles.now c.loop-v.links)
           adds (augment_ends g c.loop-v.invariant (omega (arith, c.link_at.ensures, no_node c.link_at.result c.in_default-link_at.not-To))));
       beyond = beyond_then c.search-sought.ensures.paths_kept.rest
           (beyond_then c.free-loose.ensures.kept.rest c.loop-v.invariant.rest);

@@ -40,10 +40,10 @@ loop-number-preserved c =
 pub returns : goal.returns
 returns c =
     let a = c.args in
-    let n = a.numbers in
+    let n = a.net.numbers in
     let all : c.loop-number.number ≡ suc n.k.leaves = omega arith in record {
       ran = Ran.many refl
-          (subst (FlowIn n.inputs n.nodes a.fanins.now a.roles.now c.loop-number.links) all
+          (subst (FlowIn n.inputs n.nodes a.net.fanins.now a.roles.now c.loop-number.links) all
           c.loop-number.invariant.flow);
       beyond = beyond_then c.clear.ensures.rest c.loop-number.invariant.rest;
     }

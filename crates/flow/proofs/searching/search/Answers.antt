@@ -10,7 +10,7 @@ use Rattle.flow.proofs.searching.search.Goals as goal
 
 pub loop-end-init : goal.loop-end-init
 loop-end-init c =
-    (search_starts c.requires c.clear.ensures, paths_same c.args.numbers.nodes _)
+    (search_starts c.requires c.clear.ensures, paths_same c.args.net.numbers.nodes _)
 
 pub returns-in-Break : goal.returns-in-Break
 returns-in-Break c =

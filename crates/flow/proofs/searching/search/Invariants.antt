@@ -6,7 +6,7 @@ use Rattle.flow.specs.Turns.{Searched}
 use Rattle.flow.proofs.searching.search.Given as goal
 
 abbrev pub invariant-loop-end : goal.invariant-loop-end
-invariant-loop-end l = Searched l.numbers.inputs l.numbers.nodes l.fanins l.roles l.links l.number × PathsKept l.numbers.nodes l.initial.links l.links
+invariant-loop-end l = Searched l.net.numbers.inputs l.net.numbers.nodes l.net.fanins.now l.roles l.links l.number × PathsKept l.net.numbers.nodes l.initial.links l.links
 
 abbrev pub decreases-loop-end : goal.decreases-loop-end
-decreases-loop-end l = 2 * l.numbers.nodes - l.number
+decreases-loop-end l = 2 * l.net.numbers.nodes - l.number

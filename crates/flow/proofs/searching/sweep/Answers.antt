@@ -18,8 +18,8 @@ pub visit_input-last-requires : goal.visit_input-last-requires
 visit_input-last-requires c =
     let f = c.requires.field in
     record {
-      inputs = c.args.numbers.inputs;
-      fanins = c.args.fanins.now;
+      inputs = c.args.net.numbers.inputs;
+      fanins = c.args.net.fanins.now;
       visit = record {
         ground = f.ground;
         searched = c.loop-i.invariant.searched;
@@ -72,7 +72,7 @@ loop-i-preserved c =
 pub visit_gate-last-requires : goal.visit_gate-last-requires
 visit_gate-last-requires c =
     let f = c.requires.field in
-    let low : c.loop-id.id-index < length c.args.order.now =
+    let low : c.loop-id.id-index < length c.args.net.order.now =
     omega (arith, order_size f, c.loop-id-test.true) in
     record {
       visit = record {
@@ -86,7 +86,7 @@ visit_gate-last-requires c =
 pub is_reached-requires-in-loop-id : goal.is_reached-requires-in-loop-id
 is_reached-requires-in-loop-id c =
     let f = c.requires.field in
-    let low : c.loop-id.id-index < length c.args.order.now =
+    let low : c.loop-id.id-index < length c.args.net.order.now =
     omega (arith, order_size f, c.loop-id-test.true) in
     end_asked f c.visit_gate-last.ensures.searched
     (gate_below f c.loop-id.id-index low)

@@ -36,9 +36,9 @@ returns-then-not-owes c =
     let none = c.owes.ensures.no c.if-not-owes.true in
     record {
       reply =
-          not_due_told a.numbers.k.leaves peak_known s (place + 1) a.form.width (number_at s place 1) none
+          not_due_told a.net.numbers.k.leaves peak_known s (place + 1) a.form.width (number_at s place 1) none
           (ap (λ (n : ℕ). eqb n 0) q);
-      rest = beyond_same a.numbers.nodes a.roles.now;
+      rest = beyond_same a.net.numbers.nodes a.roles.now;
     }
 
 pub returns-then-q-k : goal.returns-then-q-k
@@ -53,9 +53,9 @@ returns-then-q-k c =
     let due = c.owes.ensures.yes c.if-not-owes.false in
     record {
       reply =
-          miscounted a.numbers.k.leaves peak_known s (place + 1) a.form.width (number_at s place 1) due
+          miscounted a.net.numbers.k.leaves peak_known s (place + 1) a.form.width (number_at s place 1) due
           (λ e. c.if-q-k.true (q ∙ e));
-      rest = beyond_same a.numbers.nodes a.roles.now;
+      rest = beyond_same a.net.numbers.nodes a.roles.now;
     }
 
 pub overflow_add-place : goal.overflow_add-place
@@ -88,7 +88,7 @@ returns c =
     let due = c.owes.ensures.yes c.if-not-owes.false in
     record {
       reply =
-          due_told a.numbers.k.leaves peak_known s (place + 1) a.form.width (number_at s place 1) due
+          due_told a.net.numbers.k.leaves peak_known s (place + 1) a.form.width (number_at s place 1) due
           (sym q ∙ c.if-q-k.false) told.reply;
       rest = told.rest;
     }

@@ -26,7 +26,7 @@ write_bare-requires c =
 pub returns-then-not-owes_evidence : goal.returns-then-not-owes_evidence
 returns-then-not-owes_evidence c =
     let p = c.requires in
-    let known = c.peak-p.ensures c.args.numbers.inputs c.args.numbers.nodes (gate_low p) in
+    let known = c.peak-p.ensures c.args.net.numbers.inputs c.args.net.numbers.nodes (gate_low p) in
     let none = owes_not c.label_of-label.ensures known c.owes_evidence.ensures
     c.if-not-owes_evidence.true in
     bare_written p c.label_of-label.result.depth c.cut_size-size.ensures c.label_of-label.ensures none
@@ -35,7 +35,7 @@ returns-then-not-owes_evidence c =
 pub find_evidence-requires : goal.find_evidence-requires
 find_evidence-requires c =
     let p = c.requires in
-    let known = c.peak-p.ensures c.args.numbers.inputs c.args.numbers.nodes (gate_low p) in
+    let known = c.peak-p.ensures c.args.net.numbers.inputs c.args.net.numbers.nodes (gate_low p) in
     let owes = owes_so c.label_of-label.ensures known c.owes_evidence.ensures
     c.if-not-owes_evidence.false in
     evidence_asked p owes
@@ -43,7 +43,7 @@ find_evidence-requires c =
 pub write_proven-requires : goal.write_proven-requires
 write_proven-requires c =
     let p = c.requires in
-    let known = c.peak-p.ensures c.args.numbers.inputs c.args.numbers.nodes (gate_low p) in
+    let known = c.peak-p.ensures c.args.net.numbers.inputs c.args.net.numbers.nodes (gate_low p) in
     let owes = owes_so c.label_of-label.ensures known c.owes_evidence.ensures
     c.if-not-owes_evidence.false in
     proven_asked p c.label_of-label.result.depth c.cut_size-size.ensures owes
@@ -52,7 +52,7 @@ write_proven-requires c =
 pub returns : goal.returns
 returns c =
     let p = c.requires in
-    let known = c.peak-p.ensures c.args.numbers.inputs c.args.numbers.nodes (gate_low p) in
+    let known = c.peak-p.ensures c.args.net.numbers.inputs c.args.net.numbers.nodes (gate_low p) in
     let owes = owes_so c.label_of-label.ensures known c.owes_evidence.ensures
     c.if-not-owes_evidence.false in
     proven_written p c.label_of-label.result.depth c.cut_size-size.ensures c.label_of-label.ensures owes

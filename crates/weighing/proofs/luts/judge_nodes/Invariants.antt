@@ -3,5 +3,5 @@ use Rattle.weighing.proofs.Rulings.{NodesPassed}
 use Rattle.weighing.proofs.luts.judge_nodes.Given as goal
 
 abbrev pub invariant-loop-v : goal.invariant-loop-v
-invariant-loop-v l = NodesPassed l.numbers.inputs l.numbers.nodes l.numbers.k.leaves l.fanins l.rows l.luts l.cuts l.tables l.initial.roles l.initial.values
+invariant-loop-v l = NodesPassed l.net.numbers.inputs l.net.numbers.nodes l.net.numbers.k.leaves l.net.fanins.now l.rows l.luts l.cuts l.tables l.initial.roles l.initial.values
     l.v l.roles l.values
