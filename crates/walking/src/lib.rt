@@ -65,16 +65,11 @@ pub fn is_cut(net: Net, gate: Node, leaves: &[u16], size: CutSize, roles: &mut [
         roles.old result roles.new }
 {
     walk(net, gate, leaves, size, roles);
-    if size.leaves == 0 {
-        return false;
-    }
-    if size.leaves > net.numbers.k.leaves {
-        return false;
-    }
-    if !cones::is_rising(leaves, size) {
-        return false;
-    }
-    if !cones::leaves_met(leaves, size, net.numbers.nodes, roles) {
+    if size.leaves == 0
+        || size.leaves > net.numbers.k.leaves
+        || !cones::is_rising(leaves, size)
+        || !cones::leaves_met(leaves, size, net.numbers.nodes, roles)
+    {
         return false;
     }
     cones::inputs_stop(leaves, size, net.numbers.inputs, roles)
