@@ -11,6 +11,7 @@ use drawing::bytes::{ids_below, small_at};
 use sheet::limits::COUNT_SIZE;
 use storage::{CutSize, Label, Node};
 
+// `label_at`, `node_at` and `size_at` share `small_at`, and no more: one function for the three would need a trait that makes each type of its number.
 pub fn label_at(sheet: &[u8], at: usize, width: usize) -> Label
     requires narrow { Narrow width }
     requires width_in_bounds { at + width ≤ length sheet.now }

@@ -4,6 +4,7 @@ ghost use Rattle.sheet.specs.Shape.{number, place};
 
 use crate::Fault;
 
+// Why there is no trait for these two and for those of `drawing::refusals` is said there.
 pub fn number_of_fault(f: Fault) -> u64
     ensures { result ≡ number f }
 {

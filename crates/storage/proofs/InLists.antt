@@ -8,7 +8,7 @@ use mathlib.Core.List.{List, ◌∷◌, Memᴰ}
 use lib.ListN.{length, get_or, set, drop, length-take, length-drop, length-set}
 use lib.Seq.{sets, length-sets, get_or-take, get_or-drop, get_or-set_same, ext_get_or}
 use Rattle.storage.specs.Lists.{size_at, entry_at, list_at}
-use Rattle.storage.proofs.Entries.{member_at, place_of}
+use Rattle.storage.proofs.Entries.{member_at}
 use Rattle.storage.proofs.Stores.{stored_beside, stored_at}
 
 module _ (lists : List ℕ) (v : ℕ) (long : 7 * v + 7 ≤ length lists) (six : size_at lists v ≤ 6) where
@@ -22,13 +22,6 @@ module _ (lists : List ℕ) (v : ℕ) (long : 7 * v + 7 ≤ length lists) (six :
   list_member i low =
       subst (λ (u : ℕ). Memᴰ u (list_at lists v)) (list_entry i low)
       (member_at (list_at lists v) i (omega (arith, list_size)))
-
-  -- where a member stands
-  pub list_place : {u : ℕ} → Memᴰ u (list_at lists v) → (i : ℕ) × (i < size_at lists v) × (entry_at lists v i ≡ u)
-  list_place m =
-      let p = place_of m in
-      let low : p.at < size_at lists v = omega (arith, p.inside, list_size) in
-      (p.at, low, sym (list_entry p.at low) ∙ p.entry)
 
 -- two arrays that agree at a node's places hold the same list there
 pub list_same : (l m : List ℕ) (v : ℕ) → 7 * v + 7 ≤ length l → 7 * v + 7 ≤ length m → size_at l v ≤ 6 → size_at m v ≡ size_at l v →

@@ -40,7 +40,7 @@ pub struct Net<'a> {
     pub order: &'a [u16],
 }
 
-// The first `size` entries become `value`.
+// The first `size` entries become `value`. (std's `entries[..size].fill(value)` tells of each entry of the part: callers here need one equation of the whole.)
 pub fn fill<T: Copy>(entries: &mut [T], size: usize, value: T)
     requires { size ≤ length entries.old }
     ensures { entries.new ≡ replicate size value ++ drop size entries.old }

@@ -1,7 +1,7 @@
 // Ids in an array: one after the other, as in an order or among leaves; or lists of up to six, seven places a node: how many, then the ids,
 // as fanins lie, and cuts.
 ghost use Rattle.std.specs.Prelude.{◌≡◌, ◌+◌, ◌*◌, ◌≤◌, ◌<◌, length, get_or, set};
-ghost use Rattle.storage.specs.Lists.{size_at, entry_at, list_at};
+ghost use Rattle.storage.specs.Lists.{size_at, list_at};
 
 use crate::{CutSize, Node};
 
@@ -30,16 +30,6 @@ pub fn size_at(lists: &[u16], node: Node) -> usize
 {
     let at = PLACES * (node.id as usize);
     lists[at] as usize
-}
-
-// The i-th id of the node's list.
-pub fn entry_at(lists: &[u16], node: Node, i: usize) -> Node
-    requires i_bound { i < 6 }
-    requires id_in_bounds { 7 * node.id + 7 ≤ length lists.now }
-    ensures { result.id ≡ entry_at lists.now node.id i }
-{
-    let at = PLACES * (node.id as usize) + 1 + i;
-    Node { id: lists[at] }
 }
 
 // The node's list.
