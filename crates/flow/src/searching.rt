@@ -160,7 +160,7 @@ fn sweep(net: Net, roles: &[u8], links: &mut [u16], number: u16) -> ControlFlow<
 {
     let nodes = net.numbers.nodes;
     let mut last = number;
-    for i in 0..numbers.inputs {
+    for i in 0..net.numbers.inputs {
         let v = Node { id: i as u16 };
         last = visit_input(nodes, roles, links, v, last);
         if is_reached(nodes, roles, links, v) {

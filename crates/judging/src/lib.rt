@@ -67,7 +67,7 @@ fn first_broken(
         (lined_of form labels.now cuts.now places.now sheet.now)
         (gates (net_in net.entry.numbers.inputs net.entry.numbers.nodes net.entry.fanins.now)) roles.old result roles.new }
 {
-    for t in net.numbers.inputs..numbers.nodes {
+    for t in net.numbers.inputs..net.numbers.nodes {
         let gate = Node { id: t as u16 };
         judge_gate(net, form, labels, cuts, places, sheet, gate, roles)?;
     }

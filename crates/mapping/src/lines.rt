@@ -58,7 +58,7 @@ pub fn write_lines(
         sheet.new result }
 {
     let mut to = at;
-    for v in net.numbers.inputs..numbers.nodes {
+    for v in net.numbers.inputs..net.numbers.nodes {
         let gate = Node { id: v as u16 };
         to = write_line(net, form, gate, labels, cuts, roles, links, sheet, to);
     }

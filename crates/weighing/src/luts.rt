@@ -90,7 +90,7 @@ fn judge_nodes(
         luts.now cuts.now tables.now roles.old values.old result roles.new
         values.new }
 {
-    for v in net.numbers.inputs..numbers.nodes {
+    for v in net.numbers.inputs..net.numbers.nodes {
         let node = Node { id: v as u16 };
         judge_node(net, rows, luts, cuts, tables, node, roles, values)?;
     }
