@@ -11,7 +11,7 @@ ghost use Rattle.compiling.specs.Stages.{Scanned, NamesRight, numbers_right};
 
 use crate::tables::{store_table, write_table};
 use drawing::limits::{LEAST_K, MOST_INPUTS, MOST_K, MOST_NODES, MOST_OUTPUTS};
-use naming::first_misnamed;
+use naming::{Equations, first_misnamed};
 use scanning::{Counts, read_text};
 use spelling::MOST_TEXT;
 use storage::{CutSize, Node};
@@ -56,49 +56,27 @@ fn in_numbers(k: u64, counts: Counts) -> bool
 }
 
 // A text whose names are right.
-fn compile_named(
-    text: &[u8],
-    k: u64,
-    gates: &[u16],
-    names: &[u16],
-    counts: Counts,
-    table: &mut [u8],
-) -> Reply
-    requires { NamesRight text.now gates.now names.now counts }
-    ensures { Compiles text.now k table.old result table.new }
+fn compile_named(equations: Equations, k: u64, table: &mut [u8]) -> Reply
+    requires { NamesRight equations.text.now equations.gates.now equations.names.now equations.counts }
+    ensures { Compiles equations.entry.text.now k table.old result table.new }
 {
-    if in_numbers(k, counts) {
+    if in_numbers(k, equations.counts) {
         let mut bytes = [0u8; TABLE_ROOM];
         let size = CutSize { leaves: k as u8 };
-        let length = write_table(text, size, gates, names, counts, &mut bytes);
+        let length = write_table(equations, size, &mut bytes);
         return store_table(&bytes[..length], table);
     }
     Reply::Numbers
 }
 
 // A text in the grammar.
-fn compile_scanned(
-    text: &[u8],
-    k: u64,
-    gates: &[u16],
-    names: &[u16],
-    counts: Counts,
-    table: &mut [u8],
-) -> Reply
-    requires { Scanned text.now gates.now names.now counts }
-    ensures { Compiles text.now k table.old result table.new }
+fn compile_scanned(equations: Equations, k: u64, table: &mut [u8]) -> Reply
+    requires { Scanned equations.text.now equations.gates.now equations.names.now equations.counts }
+    ensures { Compiles equations.entry.text.now k table.old result table.new }
 {
-    let wrong = first_misnamed(
-        text,
-        gates,
-        counts.gates,
-        names,
-        counts.definitions,
-        counts.outputs,
-    );
-    match wrong {
+    match first_misnamed(equations) {
         Some(place) => Reply::Name(place),
-        None => compile_named(text, k, gates, names, counts, table),
+        None => compile_named(equations, k, table),
     }
 }
 
@@ -113,6 +91,14 @@ pub fn compile(text: &[u8], k: u64, table: &mut [u8]) -> Reply
     let mut names = [0u16; NAME_PLACES];
     match read_text(text, &mut gates, &mut names) {
         Err(stopped) => Reply::Text(stopped.place),
-        Ok(counts) => compile_scanned(text, k, &gates, &names, counts, table),
+        Ok(counts) => {
+            let equations = Equations {
+                text,
+                gates: &gates,
+                names: &names,
+                counts,
+            };
+            compile_scanned(equations, k, table)
+        }
     }
 }

@@ -21,6 +21,11 @@ read_text-requires c =
       names_empty = zeros most_text;
     }
 
+pub invariant_of-equations : goal.invariant_of-equations
+invariant_of-equations c =
+    let read = scanned (omega arith) (omega arith) (omega arith) c.in-Ok.ensures in
+    record { definitions_in_bounds = omega (arith, read.names_long) }
+
 pub compile_scanned-requires : goal.compile_scanned-requires
 compile_scanned-requires c =
     scanned (omega arith) (omega arith) (omega arith)

@@ -17,5 +17,5 @@ pub returns : goal.returns
 returns c =
     let l = c.loop-i in
     let a = c.args in
-    let all : l.i ≡ a.definitions = omega arith in
-    subst (λ (n : ℕ). LeastOf (OneBelow n (AgainAt a.text.now a.names.now)) l.best) all l.invariant
+    let all : l.i ≡ a.equations.counts.definitions = omega arith in
+    subst (λ (n : ℕ). LeastOf (OneBelow n (AgainAt a.equations.text.now a.equations.names.now)) l.best) all l.invariant
