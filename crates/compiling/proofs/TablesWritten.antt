@@ -78,7 +78,6 @@ module _ {s gates names : List ℕ} {k : ℕ} {c : Counts} (ready : Ready s k ga
           let inputs = inputs_is in
           record {
             gates_long = omega (arith, ready.right.scanned.gates_long);
-            names_long = omega (arith, ready.right.scanned.names_long);
             left_low = omega (arith, left_low stored k j low, stored.made_said);
             right_low = omega (arith, right_low stored k j low, stored.made_said);
             room = subst (λ (g : GateLine). Room table at (gate_field narrow_table g)) stands (gate_room (ready_table ready) j more w whole_room);

@@ -54,7 +54,6 @@ ready_table {s} {k = k} ready = table_for s k ready.right.scanned.says
 -- One gate from the arrays.
 pub record GateAsked (s gates : List ℕ) (gate : ℕ) (names : List ℕ) (definitions inputs : ℕ) (table : List ℕ) (at : ℕ) : Type 0 where
   pub gates_long : 3 * (gate + 1) ≤ length gates
-  pub names_long : 2 * definitions ≤ length names
   pub left_low : inputs + (three_in gates gate).left ≤ most_text + 32767
   pub right_low : inputs + (three_in gates gate).right ≤ most_text + 32767
   pub room : Room table at (gate_field narrow_table (line_of (node_named s names definitions) inputs (three_in gates gate)))

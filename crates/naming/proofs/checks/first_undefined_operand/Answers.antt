@@ -16,9 +16,9 @@ loop-gate-preserved c =
 pub returns : goal.returns
 returns c =
     let l = c.loop-gate in
-    let a = c.args in
-    let all : l.gate ≡ a.equations.counts.gates = omega arith in
+    let a = c.args.equations in
+    let all : l.gate ≡ a.counts.gates = omega arith in
     subst
     (λ (n : ℕ).
-    LeastOf (OneBelow n (UndefinedInGate a.equations.text.now a.equations.names.now a.equations.counts.definitions a.equations.gates.now)) l.best)
+    LeastOf (OneBelow n (UndefinedInGate a.text.now a.names.now a.counts.definitions a.gates.now)) l.best)
     all l.invariant
