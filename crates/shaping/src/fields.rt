@@ -1,15 +1,14 @@
 // The ruling on one field of a sheet, rule by rule in the paper's order.
 ghost use Rattle.std.specs.Prelude.{◌≡◌, false, not, ◌||◌, ◌+◌, ◌≤◌, length, eqb};
-ghost use Rattle.drawing.specs.Bytes.{Narrow};
 ghost use Rattle.drawing.specs.paper.Rules.{first};
 ghost use Rattle.sheet.specs.paper.Limits.{depth_place};
 ghost use Rattle.sheet.specs.paper.Shape.{field_rules, end_at, head_ruling, line_range, line_at, line_length_wrong, line_ruling, lut_range, lut_at, lut_length_wrong, lut_ruling};
 ghost use Rattle.shaping.specs.Terms.{due_of};
 ghost use Rattle.shaping.specs.Fields.{field_at, head_out_of_range};
 
-use crate::Terms;
 use crate::numbers::{label_at, leaves_in_range, node_at, size_at};
 use crate::paths::{paths_in_range, paths_use};
+use crate::terms::Terms;
 use drawing::bytes::{byte_at, length_at, small_at};
 use drawing::limits::{FRAME, ROWS_SIZE, VERSION, VERSION_AT};
 use sheet::Fault;
@@ -61,7 +60,6 @@ pub fn field_end(sheet: &[u8], at: usize) -> usize
 }
 
 fn head_in_range(terms: Terms, sheet: &[u8]) -> bool
-    requires narrow { Narrow terms.form.width }
     requires inputs_le_nodes { terms.numbers.inputs ≤ terms.numbers.nodes }
     requires width_in_bounds { depth_place + terms.form.width + terms.form.width ≤ length sheet.now }
     ensures { result ≡ not (head_out_of_range (due_of terms) sheet.now) }
@@ -73,7 +71,6 @@ fn head_in_range(terms: Terms, sheet: &[u8]) -> bool
 }
 
 pub fn head_ruling(terms: Terms, sheet: &[u8], field: Option<Front>) -> Result<(), Fault>
-    requires narrow { Narrow terms.form.width }
     requires inputs_le_nodes { terms.numbers.inputs ≤ terms.numbers.nodes }
     requires field_value { field ≡ field_at sheet.now 0 }
     ensures { result ≡ head_ruling (due_of terms) sheet.now }
@@ -91,8 +88,7 @@ pub fn head_ruling(terms: Terms, sheet: &[u8], field: Option<Front>) -> Result<(
 
 // Do the counts of the line at `at` use its value up exactly?
 fn line_uses(terms: Terms, sheet: &[u8], at: usize) -> bool
-    requires narrow { Narrow terms.form.width }
-    requires at_in_bounds { end_at sheet.now at ≤ length sheet.now }
+    requires { end_at sheet.now at ≤ length sheet.now }
     ensures { result ≡ not (line_length_wrong (due_of terms) sheet.now at) }
 {
     let width = terms.form.width;
@@ -123,7 +119,6 @@ fn is_path_count(count: usize, k: CutSize) -> bool
 }
 
 fn line_in_range(terms: Terms, sheet: &[u8], at: usize) -> bool
-    requires narrow { Narrow terms.form.width }
     requires at_in_bounds { end_at sheet.now at ≤ length sheet.now }
     requires at_value { line_length_wrong (due_of terms) sheet.now at ≡ false }
     ensures { result ≡ not (line_range (due_of terms) (line_at (due_of terms) sheet.now at)) }
@@ -150,8 +145,7 @@ fn line_in_range(terms: Terms, sheet: &[u8], at: usize) -> bool
 }
 
 pub fn line_ruling(terms: Terms, sheet: &[u8], at: usize, field: Option<Front>) -> Result<(), Fault>
-    requires narrow { Narrow terms.form.width }
-    requires field_value { field ≡ field_at sheet.now at }
+    requires { field ≡ field_at sheet.now at }
     ensures { result ≡ line_ruling (due_of terms) sheet.now at }
 {
     frame(sheet, at, field, terms.form.line)?;
@@ -166,8 +160,7 @@ pub fn line_ruling(terms: Terms, sheet: &[u8], at: usize, field: Option<Front>) 
 
 // Do the counts of the LUT at `at` use its value up exactly? What it shares with `line_uses` are two lines, which no function says plainer.
 fn lut_uses(terms: Terms, sheet: &[u8], at: usize) -> bool
-    requires narrow { Narrow terms.form.width }
-    requires at_in_bounds { end_at sheet.now at ≤ length sheet.now }
+    requires { end_at sheet.now at ≤ length sheet.now }
     ensures { result ≡ not (lut_length_wrong (due_of terms) sheet.now at) }
 {
     let width = terms.form.width;
@@ -180,7 +173,6 @@ fn lut_uses(terms: Terms, sheet: &[u8], at: usize) -> bool
 }
 
 fn lut_in_range(terms: Terms, least: usize, sheet: &[u8], at: usize) -> bool
-    requires narrow { Narrow terms.form.width }
     requires at_in_bounds { end_at sheet.now at ≤ length sheet.now }
     requires at_value { lut_length_wrong (due_of terms) sheet.now at ≡ false }
     ensures { result ≡ not (lut_range (due_of terms) least (lut_at (due_of terms) sheet.now at)) }
@@ -199,8 +191,7 @@ pub fn lut_ruling(
     at: usize,
     field: Option<Front>,
 ) -> Result<(), Fault>
-    requires narrow { Narrow terms.form.width }
-    requires field_value { field ≡ field_at sheet.now at }
+    requires { field ≡ field_at sheet.now at }
     ensures { result ≡ lut_ruling (due_of terms) sheet.now least at }
 {
     frame(sheet, at, field, terms.form.lut)?;

@@ -5,10 +5,10 @@ ghost use Rattle.shaping.specs.Terms.{due_of};
 ghost use Rattle.shaping.specs.Loading.{start_of, line_arrays, LineRoom, lut_arrays, LutRoom, LutsFilled, Loadable};
 ghost use Rattle.shaping.specs.Turns.{LinesLoaded, next_root, NextReady};
 
-use crate::Terms;
 use crate::fields::field_end;
 use crate::numbers::node_at;
 use crate::storing::{put_line, put_lut, put_no_line, put_no_lut};
+use crate::terms::Terms;
 use drawing::bytes::small_at;
 use drawing::limits::FRAME;
 use sheet::limits::DEPTH_AT;

@@ -6,7 +6,7 @@ ghost use Rattle.sheet.specs.paper.Limits.{count_size};
 ghost use Rattle.sheet.specs.paper.Shape.{rising, leaves_range, leaves_at, leaves_end};
 ghost use Rattle.shaping.specs.Terms.{due_of};
 
-use crate::Terms;
+use crate::terms::Terms;
 use drawing::bytes::{ids_below, small_at};
 use sheet::limits::COUNT_SIZE;
 use storage::{CutSize, Label, Node};
@@ -60,8 +60,7 @@ pub fn ids_rise(sheet: &[u8], at: usize, width: usize, count: usize) -> bool
 
 // Are the leaves behind the count at `at` as the range rules ask?
 pub fn leaves_in_range(terms: Terms, sheet: &[u8], at: usize) -> bool
-    requires narrow { Narrow terms.form.width }
-    requires at_in_bounds { leaves_end (due_of terms) sheet.now at ≤ length sheet.now }
+    requires { leaves_end (due_of terms) sheet.now at ≤ length sheet.now }
     ensures { result ≡ not (leaves_range (due_of terms) (leaves_at (due_of terms) sheet.now at)) }
 {
     let width = terms.form.width;

@@ -1,15 +1,16 @@
 // One node's entries in the arrays that a sheet is loaded into.
 ghost use Rattle.std.specs.Prelude.{◌≡◌, ◌+◌, ◌*◌, ◌-◌, ◌≤◌, ◌<◌, length, get_or};
 ghost use Rattle.sheet.specs.paper.Sheet.{no_line};
+ghost use Rattle.drawing.specs.paper.Limits.{rows_size};
 ghost use Rattle.drawing.specs.paper.Bytes.{ids_at};
 ghost use Rattle.drawing.specs.Bytes.{Narrow};
-ghost use Rattle.sheet.specs.paper.Shape.{line_at, lut_at};
+ghost use Rattle.sheet.specs.paper.Shape.{leaves_end, line_at, lut_cut, lut_at};
 ghost use Rattle.shaping.specs.Terms.{due_of};
 ghost use Rattle.shaping.specs.Loading.{Filled, counted, line_arrays, LineRoom, LinePut, lut_arrays, LutRoom, LutPut, none_listed, lut_listed};
-ghost use Rattle.shaping.specs.Turns.{LineReady, LutReady};
+ghost use Rattle.shaping.specs.Turns.{LineReady};
 
-use crate::Terms;
 use crate::numbers::{label_at, node_at, size_at};
+use crate::terms::Terms;
 use drawing::bytes::number_at;
 use drawing::limits::{FRAME, ID_SIZE, ROWS_SIZE};
 use sheet::limits::COUNT_SIZE;
@@ -107,7 +108,7 @@ pub fn put_lut(
     cuts: &mut [u16],
     tables: &mut [u64],
 )
-    requires lut_ready { LutReady (due_of terms) sheet.now at }
+    requires whole { leaves_end (due_of terms) sheet.now (lut_cut (due_of terms) sheet.now at) + rows_size ≤ length sheet.now }
     requires lut_room { LutRoom (node.id + 1) (lut_arrays luts.old cuts.old tables.old) }
     ensures { LutPut (lut_listed (lut_at (due_of terms) sheet.now at)) node.id (lut_arrays luts.old cuts.old tables.old) (lut_arrays luts.new cuts.new tables.new) }
 {

@@ -1,5 +1,4 @@
 -- `judge_sheet` meets its contract.
-use native.Mathlib.Omega.{arith}
 use mathlib.Core.Path.{sym, ◌∙◌}
 use Rattle.storage.proofs.Drawings.{drawn_span}
 use Rattle.inspecting.specs.Holding.{SheetRuled}
@@ -7,7 +6,7 @@ use Rattle.inspecting.proofs.judge_sheet.Goals as goal
 
 pub judge_shape-requires : goal.judge_shape-requires
 judge_shape-requires c =
-    rw c.terms_for.ensures record { narrow = record { some = omega arith; few = omega arith }; inputs_le_nodes = drawn_span c.requires.drawing.drawn }
+    rw c.terms_for.ensures (drawn_span c.requires.drawing.drawn)
 
 pub judge_rules-requires : goal.judge_rules-requires
 judge_rules-requires c =

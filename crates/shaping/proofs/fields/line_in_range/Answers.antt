@@ -18,7 +18,7 @@ pub paths_in_range-requires : goal.paths_in_range-requires
 paths_in_range-requires c =
     let due = due_of c.args.terms in
     let s = c.args.sheet.now in record {
-      narrow = c.requires.narrow;
+      narrow = c.args.terms.narrow;
       count_in_bounds = omega (
         arith,
         paths_end_lem due s c.args.at c.size_at-leaves.ensures c.small_at-count.ensures

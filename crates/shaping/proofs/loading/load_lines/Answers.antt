@@ -22,7 +22,7 @@ pub put_line-requires : goal.put_line-requires
 put_line-requires c =
     let all = whole (due_of c.args.terms) c.args.sheet.now c.requires.loadable.sound in record {
       line_ready = gate_ready c.loop-v.invariant all (omega (arith, c.if-v-terms.false)) c.loop-v-test.true
-          c.requires.loadable.narrow c.requires.loadable.short;
+          c.requires.loadable.short;
       line_room = lines_room (c.loop-v.v + 1) (omega (arith, c.loop-v-test.true)) c.requires.line_room c.loop-v.invariant.filled;
     }
 

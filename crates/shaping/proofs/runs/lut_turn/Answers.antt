@@ -24,7 +24,7 @@ overflow_add-at c =
 pub node_at-root-requires : goal.node_at-root-requires
 node_at-root-requires c =
     record {
-      narrow = c.requires.narrow;
+      narrow = c.args.terms.narrow;
       width_in_bounds = omega (
         arith,
         lut_whole (due_of c.args.terms) c.args.sheet.now c.args.left.least
