@@ -24,13 +24,14 @@ abbrev pub due_for : (k inputs nodes : ℕ) → Due
 due_for k inputs nodes = due_from narrow most_depth k inputs nodes
 
 -- what a sheet for a table with these numbers is read by; `due_of` of it is `due_for`
-abbrev pub terms_for : Numbers → Terms
-terms_for n =
+abbrev pub terms_for : (n : Numbers) → n.inputs ≤ n.nodes → Terms
+terms_for n inputs_in =
     record {
       form = narrow;
       most = record { depth = most_depth };
       numbers = n;
       narrow = record { some = omega arith; few = omega arith };
+      inputs_in = inputs_in;
     }
 
 -- A table taken: a drawing with its order, its tables and its outputs in arrays.

@@ -60,8 +60,7 @@ pub fn field_end(sheet: &[u8], at: usize) -> usize
 }
 
 fn head_in_range(terms: Terms, sheet: &[u8]) -> bool
-    requires inputs_le_nodes { terms.numbers.inputs ≤ terms.numbers.nodes }
-    requires width_in_bounds { depth_place + terms.form.width + terms.form.width ≤ length sheet.now }
+    requires { depth_place + terms.form.width + terms.form.width ≤ length sheet.now }
     ensures { result ≡ not (head_out_of_range (due_of terms) sheet.now) }
 {
     let width = terms.form.width;
@@ -71,8 +70,7 @@ fn head_in_range(terms: Terms, sheet: &[u8]) -> bool
 }
 
 pub fn head_ruling(terms: Terms, sheet: &[u8], field: Option<Front>) -> Result<(), Fault>
-    requires inputs_le_nodes { terms.numbers.inputs ≤ terms.numbers.nodes }
-    requires field_value { field ≡ field_at sheet.now 0 }
+    requires { field ≡ field_at sheet.now 0 }
     ensures { result ≡ head_ruling (due_of terms) sheet.now }
 {
     frame(sheet, 0, field, terms.form.head)?;

@@ -10,7 +10,7 @@ mod runs;
 mod storing;
 mod terms;
 
-ghost use Rattle.std.specs.Prelude.{◌≡◌, ◌≤◌};
+ghost use Rattle.std.specs.Prelude.{◌≡◌};
 ghost use Rattle.sheet.specs.paper.Shape.{reading};
 ghost use Rattle.shaping.specs.Terms.{due_of};
 ghost use Rattle.shaping.specs.Loading.{line_arrays, LineRoom, lut_arrays, LutRoom, Loadable, Loaded};
@@ -26,7 +26,6 @@ use storage::Label;
 
 // Pass one: the ruling on the shape of a sheet. A reader walks its fields, from the front on, until none is due.
 pub fn judge_shape(terms: Terms, sheet: &[u8]) -> Result<(), Fault>
-    requires { terms.numbers.inputs ≤ terms.numbers.nodes }
     ensures { result ≡ (reading (due_of terms) sheet.now).ruling }
 {
     let mut reader = begin(sheet);

@@ -23,8 +23,7 @@ pub struct Left {
 
 // What is due behind the head.
 pub fn head_turn(terms: Terms, sheet: &[u8], field: Option<Front>) -> Result<Left, Fault>
-    requires inputs_le_nodes { terms.numbers.inputs ≤ terms.numbers.nodes }
-    requires field_value { field ≡ field_at sheet.now 0 }
+    requires { field ≡ field_at sheet.now 0 }
     ensures { GoesOn (due_of terms) sheet.now 0 (reading (due_of terms) sheet.now).ruling result }
 {
     head_ruling(terms, sheet, field)?;

@@ -1,4 +1,5 @@
 // What a sheet is read by, and what is so of it for every sheet.
+ghost use Rattle.std.specs.Prelude.{◌≤◌};
 ghost use Rattle.drawing.specs.Bytes.{Narrow};
 
 use sheet::Form;
@@ -11,4 +12,5 @@ pub struct Terms {
     pub most: Label,
     pub numbers: Numbers,
     pub ghost narrow: { Narrow form.width },
+    pub ghost inputs_in: { numbers.inputs ≤ numbers.nodes },
 }

@@ -38,7 +38,7 @@ loop-v-preserved c =
     elim c.if-v-terms.branch [
       | then-v-terms w ↦
           rw (w.labels-is, w.cuts-is, w.places-is, w.at-is)
-          (input_more so_far c.requires.loadable.gates w.if-v-terms.true c.requires.line_room w.put_no_line.ensures)
+          (input_more so_far c.args.terms.inputs_in w.if-v-terms.true c.requires.line_room w.put_no_line.ensures)
       | else-v-terms w ↦
           rw (w.labels-is, w.cuts-is, w.places-is, w.at-is)
           (gate_more so_far all w.if-v-terms.false c.loop-v-test.true c.requires.line_room w.put_line.ensures
