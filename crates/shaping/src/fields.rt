@@ -65,7 +65,7 @@ fn head_in_range(terms: Terms, sheet: &[u8]) -> bool
 {
     let width = terms.form.width;
     small_at(sheet, VERSION_AT, VERSION_SIZE) == VERSION
-        && label_at(sheet, DEPTH_AT, width).depth <= terms.most.depth
+        && label_at(terms, sheet, DEPTH_AT).depth <= terms.most.depth
         && small_at(sheet, DEPTH_AT + width, width) <= terms.numbers.nodes - terms.numbers.inputs
 }
 
@@ -101,9 +101,9 @@ fn line_uses(terms: Terms, sheet: &[u8], at: usize) -> bool
     }
     let count = small_at(sheet, at + FRAME + before, COUNT_SIZE);
     paths_use(
+        terms,
         sheet,
         at + FRAME + before + COUNT_SIZE,
-        width,
         count,
         at + FRAME + size,
     )
@@ -122,7 +122,7 @@ fn line_in_range(terms: Terms, sheet: &[u8], at: usize) -> bool
     ensures { result ≡ not (line_range (due_of terms) (line_at (due_of terms) sheet.now at)) }
 {
     let width = terms.form.width;
-    let label = label_at(sheet, at + FRAME, width);
+    let label = label_at(terms, sheet, at + FRAME);
     if label.depth < 1 {
         return false;
     }
@@ -139,7 +139,7 @@ fn line_in_range(terms: Terms, sheet: &[u8], at: usize) -> bool
     if !is_path_count(count, terms.numbers.k) {
         return false;
     }
-    paths_in_range(sheet, paths + COUNT_SIZE, width, count, terms.numbers.nodes)
+    paths_in_range(terms, sheet, paths + COUNT_SIZE, count)
 }
 
 pub fn line_ruling(terms: Terms, sheet: &[u8], at: usize, field: Option<Front>) -> Result<(), Fault>
@@ -176,7 +176,7 @@ fn lut_in_range(terms: Terms, least: usize, sheet: &[u8], at: usize) -> bool
     ensures { result ≡ not (lut_range (due_of terms) least (lut_at (due_of terms) sheet.now at)) }
 {
     let width = terms.form.width;
-    let root = node_at(sheet, at + FRAME, width).id as usize;
+    let root = node_at(terms, sheet, at + FRAME).id as usize;
     least <= root && root < terms.numbers.nodes && leaves_in_range(terms, sheet, at + FRAME + width)
 }
 

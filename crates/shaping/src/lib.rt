@@ -57,5 +57,5 @@ pub fn load_sheet(
 {
     let next = load_lines(terms, sheet, labels, cuts, places);
     load_luts(terms, sheet, next, luts, lut_cuts, tables);
-    label_at(sheet, DEPTH_AT, terms.form.width)
+    label_at(terms, sheet, DEPTH_AT)
 }

@@ -70,7 +70,7 @@ fn lut_turn(
     ensures { Turned (due_of terms) sheet.now at left result }
 {
     lut_ruling(terms, left.least, sheet, at, field)?;
-    let root = node_at(sheet, at + FRAME, terms.form.width);
+    let root = node_at(terms, sheet, at + FRAME);
     Ok(Left {
         lines: left.lines,
         luts: left.luts - 1,

@@ -32,7 +32,7 @@ small_at-count-requires c = record { narrow = narrow_one; width_in_bounds = omeg
 
 pub paths_use-requires : goal.paths_use-requires
 paths_use-requires c =
-    record { narrow = c.args.terms.narrow; at_le_end = omega arith; end_in_bounds = omega arith }
+    record { at_le_end = omega arith; end_in_bounds = omega arith }
 
 pub returns : goal.returns
 returns c =

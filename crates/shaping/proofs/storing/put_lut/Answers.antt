@@ -33,7 +33,6 @@ number_at-requires c =
 pub put_list-requires : goal.put_list-requires
 put_list-requires c =
     record {
-      narrow = c.args.terms.narrow;
       width_in_bounds = omega (arith, c.requires.whole, ap (λ (n : ℕ). n * c.args.terms.form.width) c.size_at-size.ensures.number);
       id_in_bounds = omega (arith, c.requires.lut_room.cuts);
     }
