@@ -5,7 +5,7 @@ use native.Mathlib.Omega.{arith}
 use mathlib.Core.Path.{◌≡◌, sym, subst, ◌∙◌}
 use mathlib.Core.Bool.{Bool, true, false}
 use mathlib.Core.List.{List}
-use lib.ListN.{length, get_or, take}
+use lib.ListN.{length, get_or}
 use lib.Dec.{eqb}
 use borrow.Author.Tests.{eqb-true, eq-eqb}
 use Rattle.storage.specs.Entries.{cleared, Beyond}
@@ -32,21 +32,19 @@ use Rattle.weighing.specs.PassThree.{LutKept, KeptBelow, LutsRuled, NodeRuled, L
 
 -- A root's leaves
 
-module _ {inputs nodes k : ℕ} {fanins order cuts roles : List ℕ} {v : ℕ} (asked : CutAsked inputs nodes k fanins order cuts roles v)
-    {size : ℕ} (is : size ≡ size_at cuts v) where
-  pub walk_room : WalkRoom inputs nodes k fanins order v (leaves_from cuts v) size roles
+module _ {inputs nodes k : ℕ} {fanins order cuts roles : List ℕ} {v : ℕ} (asked : CutAsked inputs nodes k fanins order cuts roles v) where
+  pub walk_room : WalkRoom inputs nodes k fanins order v roles
   walk_room =
       record {
         drawing = asked.drawing;
         node = asked.below;
-        leaves_long = leaves_room cuts v is asked.cuts_long asked.six;
         roles_long = asked.roles_long;
       }
 
-  pub cut_told : {r : Bool} {roles' : List ℕ} → CutRuled (net_in inputs nodes fanins) k (take size (leaves_from cuts v)) v roles r roles' →
+  pub cut_told : {leaves : List ℕ} → leaves ≡ list_at cuts v → {r : Bool} {roles' : List ℕ} → CutRuled (net_in inputs nodes fanins) k leaves v roles r roles' →
       CutTold inputs nodes k fanins cuts v roles r roles'
   unfolding net_in
-  cut_told ruled = record { reply = rw (leaves_cut cuts v is) at ruled.reply; rest = ruled.walk.rest }
+  cut_told listed ruled = record { reply = rw listed at ruled.reply; rest = ruled.walk.rest }
 
 -- A root's table
 
