@@ -2,7 +2,7 @@
 ghost use Rattle.weighing.specs.PassThree.{LutsAsked, LutsAnswered, FirstJudged, NodeAsked, NodeJudged, CutAsked, CutTold, FunctionAsked, FunctionTold};
 
 use covering::cones::cone_table;
-use storage::lists::{PLACES, cut_size, list_at};
+use storage::lists::list_at;
 use storage::{Net, Node, fill};
 use walking::is_cut;
 
@@ -37,10 +37,8 @@ fn table_right(
     ensures { FunctionTold net.entry.numbers.inputs net.entry.numbers.nodes net.entry.fanins.now rows.now cuts.now
         tables.now root.id values.old result values.new }
 {
-    let v = root.id as usize;
-    let at = PLACES * v + 1;
-    let table = cone_table(net, rows, root, &cuts[at..], cut_size(cuts, root), values);
-    table == tables[v]
+    let table = cone_table(net, rows, root, list_at(cuts, root), values);
+    table == tables[root.id as usize]
 }
 
 // The rules of the LUT at a node, if there is one.
