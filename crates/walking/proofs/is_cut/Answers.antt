@@ -1,5 +1,6 @@
 -- `is_cut` meets its contract: each test that fails names a part of a cut that does not hold.
 use native.Mathlib.Omega.{arith}
+use Rattle.std.proofs.Common.{rules}
 use Rattle.storage.proofs.Drawings.{drawn_span}
 use Rattle.storage.proofs.InMarks.{tells_no}
 use Rattle.walking.proofs.WalkLoops.{cut_met, cut_stops, cut_whole}
@@ -16,7 +17,6 @@ inputs_stop-requires c =
     let p = c.requires in
     let span = drawn_span p.drawing.drawn in
     record {
-      leaves_in_bounds = p.leaves_long;
       inputs_in_bounds = omega (arith, p.roles_long, c.walk.ensures.rest.size);
       inputs_bound = omega (arith, p.drawing.small);
     }
@@ -32,7 +32,7 @@ returns c =
       reply = record {
         yes =
             λ e.
-            cut_whole p made (omega (arith, c.if-size-eq0.false)) (omega (arith, c.if-size-net.false)) rising met
+            cut_whole p made (search (c.if-is_empty.false, c.is_empty.ensures, rules, arith)) (omega (arith, c.if-leaves-net.false)) rising met
             (stop.yes e);
         no = λ e cut. stop.no e (cut_stops p made cut);
       };
