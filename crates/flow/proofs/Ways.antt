@@ -1,16 +1,13 @@
 -- The ways into and out of a node, as the code reads them.
 use Prim.Native.Nat.{ℕ, zero, suc, ◌≤◌, ◌<◌}
 use native.Mathlib.Omega.{arith}
-use mathlib.Core.Path.{◌≡◌, refl, sym, ap, subst, ◌∙◌}
+use mathlib.Core.Path.{◌≡◌, refl, sym, ap, ◌∙◌}
 use mathlib.Core.Bool.{Bool, true, false, not}
 use mathlib.Core.Logic.{◌⊎◌, inl, inr, ⊎_elim}
-use mathlib.Core.List.{List, Memᴰ}
+use mathlib.Core.List.{List}
 use lib.Dec.{eqb}
 use borrow.Author.Tests.{ne_eqb, eqb-true, eqb-false, not-true, not-false}
 use Rattle.storage.specs.Entries.{at}
-use Rattle.storage.specs.Lists.{size_at, entry_at, list_at}
-use Rattle.storage.proofs.InLists.{list_member, list_place}
-use Rattle.storage.specs.Drawings.{Fed}
 use Rattle.storage.specs.declared.Node.{Node}
 use Rattle.flow.specs.declared.cells.Link.{Link}
 use Rattle.flow.specs.declared.cells.Link.TheVariants.{Nowhere, Edge, To}
@@ -57,18 +54,6 @@ left_back next ins v g x leads f =
     same u goes = omega arith
 
 -- In
-
-module _ {fanins : List ℕ} {v nodes : ℕ} (fed : Fed fanins v nodes) where
-  pub entry_feeds : (i : ℕ) {u : ℕ} → i < size_at fanins v → u ≡ entry_at fanins v i → Memᴰ u (list_at fanins v)
-  entry_feeds i low e = subst (λ (w : ℕ). Memᴰ w (list_at fanins v)) (sym e) (list_member fanins v fed.long fed.six i low)
-
-  pub entry_known : (i : ℕ) {u : ℕ} → i < size_at fanins v → u ≡ entry_at fanins v i → u < nodes
-  entry_known i {u} low e = fed.known u (entry_feeds i low e)
-
-  -- no entry that was passed was found, so no fanin was
-  pub none_passed : (outs : List ℕ) → ((i : ℕ) → i < size_at fanins v → at outs (entry_at fanins v i) ≡ 0) → FaninFound fanins outs v 0
-  none_passed outs none =
-      FaninFound.none refl (λ u feeds. let (i, low, e) = list_place fanins v fed.long fed.six feeds in sym (ap (at outs) e) ∙ none i low)
 
 pub enter_fanin : (inputs : ℕ) (fanins next outs : List ℕ) (v : ℕ) {r : ℕ} → FaninFound fanins outs v r → (r ≡ 0 → ⊥) →
     Entered inputs fanins next outs v r

@@ -10,7 +10,7 @@ ghost use Rattle.flow.specs.Turns.{InAsked, OutAsked, EnterAsked, LeaveAsked, In
 
 use crate::cells::{Column, Link, NOT_FOUND, at, clear, link_at, put, put_link};
 use std::ops::ControlFlow;
-use storage::lists::{entry_at, size_at};
+use storage::lists::list_at;
 use storage::roles::{END, is_free};
 use storage::{Net, Node, Numbers};
 
@@ -20,9 +20,8 @@ fn found_fanin(numbers: Numbers, fanins: &[u16], links: &[u16], v: Node) -> Opti
     ensures { FaninFound fanins.now (outs_in numbers.nodes links.now) v.id (code_of_found result) }
 {
     let nodes = numbers.nodes;
-    let most = size_at(fanins, v);
-    for i in 0..most {
-        let u = entry_at(fanins, v, i);
+    for id in list_at(fanins, v) {
+        let u = Node { id: *id };
         if at(links, nodes, Column::Outs, u) != NOT_FOUND {
             return Some(u);
         }

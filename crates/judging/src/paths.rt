@@ -11,10 +11,10 @@ ghost use Rattle.judging.specs.Paths.{is_marked, goes_on, is_path, are_paths, Ta
 
 use drawing::bytes::number_at;
 use storage::Node;
-use storage::lists::{PLACES, size_at};
+use storage::lists::list_at;
 use storage::roles::{END, TAKEN, TAKEN_END, is_end, is_free};
 
-// The id that stands at a place.
+// The id that stands at a place. (What the paths' functions ask of a width, `IdsStand`, is less than `node_at` of shaping asks.)
 fn id_at(s: &[u8], at: usize, width: usize) -> Node
     requires width_bound { width ≤ 8 }
     requires width_in_bounds { at + width ≤ length s.now }
@@ -46,8 +46,7 @@ fn feeds(fanins: &[u16], node: Node, gate: Node) -> bool
     requires id_bound { size_at fanins.now gate.id ≤ 6 }
     ensures { result ≡ is_member node.id (list_at fanins.now gate.id) }
 {
-    let first = PLACES * (gate.id as usize) + 1;
-    fanins[first..first + size_at(fanins, gate)].contains(&node.id)
+    list_at(fanins, gate).contains(&node.id)
 }
 
 // Can the path go on from one node to the next?

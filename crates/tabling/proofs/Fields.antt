@@ -1,37 +1,38 @@
--- For the writers of fields: the ids of one fanin and of two are their bytes one after the other, so a gate's field is written number by
--- number; which of the two its table tells; and the room of a value's first two parts, where it has four.
+-- For the writers of fields: a gate's field is written part by part; how many fanins its table tells; and the room of a value's first two
+-- parts, where it has four.
 use Prim.Native.Nat.{ℕ, ◌<◌, ◌≤◌}
+use native.Mathlib.Omega.{arith}
 use mathlib.Core.Path.{◌≡◌, ap, sym, subst}
 use mathlib.Core.Bool.{Bool, cond}
-use mathlib.Core.List.{List, [], ◌∷◌, ◌++◌, flat_map, append-nil}
+use mathlib.Core.List.{List, [], ◌∷◌, ◌++◌}
+use lib.ListN.{length}
+use lib.Seq.{take_all}
 use borrow.Author.Tests.{lt-ltb, le-ltb}
 use Rattle.drawing.specs.paper.Forms.{narrow_table}
 use Rattle.drawing.specs.paper.Table.{GateLine}
 use Rattle.sheet.specs.paper.Encoding.{digits, byte, id_bytes, field}
-use Rattle.sheet.specs.Writing.{Room, Written, opened}
-use Rattle.sheet.proofs.Writes.{then, written_as, room_first, room_then, field_room, first_room}
+use Rattle.sheet.specs.Writing.{Room, Written, part, opened}
+use Rattle.sheet.proofs.Writes.{written_as, room_first, room_then, field_room, first_room}
 use Rattle.tabling.specs.paper.Encoding.{gate_field}
 use Rattle.tabling.specs.Gates.{gate_of, gate_for}
 
-one_id : (width v : ℕ) → id_bytes width (v ∷ []) ≡ digits width v
-unfolding flat_map
-one_id width v = append-nil (digits width v)
+-- a gate by its fanins, which `put_ids` takes as a part: here from the first to the last
+module _ (before : List ℕ) (at : ℕ) (fanins : List ℕ) (rows : ℕ) where
+  abbrev part_value : List ℕ → List ℕ
+  part_value ids = byte (length fanins) ++ id_bytes 1 ids ++ digits 8 rows
 
-two_ids : (width u v : ℕ) → id_bytes width (u ∷ v ∷ []) ≡ digits width u ++ digits width v
-unfolding flat_map
-two_ids width u v = ap (λ (l : List ℕ). digits width u ++ l) (append-nil (digits width v))
+  all_fanins : part fanins 0 (length fanins) ≡ fanins
+  all_fanins = take_all (length fanins) fanins (omega arith)
 
--- a gate with one fanin
-module _ (before : List ℕ) (at v rows : ℕ) where
-  pub unary_room : Room before at (gate_field narrow_table (gate_of (v ∷ []) rows)) →
-      Room before at (opened 2 ++ (byte 1 ++ digits 1 v ++ digits 8 rows))
-  unary_room room =
-      field_room before at 2 (byte 1 ++ digits 1 v ++ digits 8 rows)
-      (subst (λ (ids : List ℕ). Room before at (field 2 (byte 1 ++ ids ++ digits 8 rows))) (one_id 1 v) room)
+  pub line_room : Room before at (gate_field narrow_table (gate_of fanins rows)) →
+      Room before at (opened 2 ++ part_value (part fanins 0 (length fanins)))
+  line_room room =
+      field_room before at 2 (part_value (part fanins 0 (length fanins)))
+      (subst (λ (ids : List ℕ). Room before at (field 2 (part_value ids))) (sym all_fanins) room)
 
-  pub unary_written : {after : List ℕ} {r : ℕ} → Written before at (field 2 (byte 1 ++ digits 1 v ++ digits 8 rows)) after r →
-      Written before at (gate_field narrow_table (gate_of (v ∷ []) rows)) after r
-  unary_written w = written_as (ap (λ (ids : List ℕ). field 2 (byte 1 ++ ids ++ digits 8 rows)) (sym (one_id 1 v))) w
+  pub line_written : {after : List ℕ} {r : ℕ} → Written before at (field 2 (part_value (part fanins 0 (length fanins)))) after r →
+      Written before at (gate_field narrow_table (gate_of fanins rows)) after r
+  line_written w = written_as (ap (λ (ids : List ℕ). field 2 (part_value ids)) all_fanins) w
 
 -- a gate by its table
 module _ (left right rows : ℕ) where
@@ -48,22 +49,6 @@ module _ {gate line : GateLine} (same : gate ≡ line) where
   pub gate_written : {before : List ℕ} {at : ℕ} {after : List ℕ} {r : ℕ} → Written before at (gate_field narrow_table line) after r →
       Written before at (gate_field narrow_table gate) after r
   gate_written w = written_as (ap (gate_field narrow_table) (sym same)) w
-
--- the ids of two fanins
-module _ (before : List ℕ) (at width u v : ℕ) where
-  both_room : Room before at (id_bytes width (u ∷ v ∷ [])) → Room before at (digits width u ++ digits width v)
-  both_room room = subst (Room before at) (two_ids width u v) room
-
-  pub left_room : Room before at (id_bytes width (u ∷ v ∷ [])) → Room before at (digits width u)
-  left_room room = room_first before at (digits width u) (digits width v) (both_room room)
-
-  module _ {middle : List ℕ} {next : ℕ} (left : Written before at (digits width u) middle next) where
-    pub right_room : Room before at (id_bytes width (u ∷ v ∷ [])) → Room middle next (digits width v)
-    right_room room = room_then left (digits width v) (both_room room)
-
-    pub pair_written : {after : List ℕ} {last : ℕ} → Written middle next (digits width v) after last →
-        Written before at (id_bytes width (u ∷ v ∷ [])) after last
-    pair_written right = written_as (sym (two_ids width u v)) (then left right)
 
 -- a value in four parts: what `first_room` of sheet is for three
 module _ (before : List ℕ) (at tag : ℕ) (vs xs ys zs : List ℕ) (room : Room before at (opened tag ++ (vs ++ xs ++ ys ++ zs))) where

@@ -1,9 +1,7 @@
 // The bytes of a gate table, written field by field into a buffer that the caller lends. Each function answers the next place.
 #![tactic(auto)]
 
-ghost use Rattle.std.specs.Prelude.{[], ◌∷◌};
 ghost use Rattle.drawing.specs.paper.Forms.{narrow_table};
-ghost use Rattle.sheet.specs.paper.Encoding.{id_bytes};
 ghost use Rattle.sheet.specs.Writing.{Room, Written};
 ghost use Rattle.tabling.specs.paper.Encoding.{head_field, gate_field, output_field};
 ghost use Rattle.tabling.specs.Gates.{gate_of, gate_for};
@@ -29,35 +27,14 @@ pub fn put_table_head(table: &mut [u8], k: CutSize, inputs: usize, gates: usize)
     bytes::close_field(table, 0, next)
 }
 
-// A gate with one fanin.
-pub fn put_unary(table: &mut [u8], at: usize, fanin: Node, rows: u64) -> usize
-    requires { Room table.old at (gate_field narrow_table (gate_of (fanin.id ∷ []) rows)) }
-    ensures { Written table.old at (gate_field narrow_table (gate_of (fanin.id ∷ []) rows)) table.new result }
+// A gate, by its fanins and its table.
+pub fn put_gate_line(table: &mut [u8], at: usize, fanins: &[u16], rows: u64) -> usize
+    requires { Room table.old at (gate_field narrow_table (gate_of fanins.now rows)) }
+    ensures { Written table.old at (gate_field narrow_table (gate_of fanins.now rows)) table.new result }
 {
     let count_at = bytes::open_field(table, at, GATE as u8);
-    let fanin_at = bytes::put_number(table, count_at, 1, COUNT_SIZE);
-    let rows_at = bytes::put_number(table, fanin_at, fanin.id as u64, ID_SIZE);
-    let next = bytes::put_number(table, rows_at, rows, ROWS_SIZE);
-    bytes::close_field(table, at, next)
-}
-
-// The ids of two fanins.
-fn put_pair(table: &mut [u8], at: usize, left: Node, right: Node) -> usize
-    requires { Room table.old at (id_bytes narrow_table.width (left.id ∷ right.id ∷ [])) }
-    ensures { Written table.old at (id_bytes narrow_table.width (left.id ∷ right.id ∷ [])) table.new result }
-{
-    let right_at = bytes::put_number(table, at, left.id as u64, ID_SIZE);
-    bytes::put_number(table, right_at, right.id as u64, ID_SIZE)
-}
-
-// A gate with two fanins.
-pub fn put_binary(table: &mut [u8], at: usize, left: Node, right: Node, rows: u64) -> usize
-    requires { Room table.old at (gate_field narrow_table (gate_of (left.id ∷ right.id ∷ []) rows)) }
-    ensures { Written table.old at (gate_field narrow_table (gate_of (left.id ∷ right.id ∷ []) rows)) table.new result }
-{
-    let count_at = bytes::open_field(table, at, GATE as u8);
-    let pair_at = bytes::put_number(table, count_at, 2, COUNT_SIZE);
-    let rows_at = put_pair(table, pair_at, left, right);
+    let fanins_at = bytes::put_number(table, count_at, fanins.len() as u64, COUNT_SIZE);
+    let rows_at = bytes::put_ids(table, fanins_at, fanins, 0, fanins.len(), ID_SIZE);
     let next = bytes::put_number(table, rows_at, rows, ROWS_SIZE);
     bytes::close_field(table, at, next)
 }
@@ -68,9 +45,9 @@ pub fn put_gate(table: &mut [u8], at: usize, left: Node, right: Node, rows: u64)
     ensures { Written table.old at (gate_field narrow_table (gate_for left.id right.id rows)) table.new result }
 {
     if rows < UNARY_TABLES {
-        put_unary(table, at, left, rows)
+        put_gate_line(table, at, &[left.id], rows)
     } else {
-        put_binary(table, at, left, right, rows)
+        put_gate_line(table, at, &[left.id, right.id], rows)
     }
 }
 
