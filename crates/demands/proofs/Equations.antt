@@ -1,6 +1,7 @@
 -- The demands on typed equations, from the promises of `compile`, `map` and `inspect`. Each refusal is a reply that the promise of `compile` allows, and it allows
 -- one. A compiled table's bytes read back (tabling's round trip), so demands 2 and 3 speak of them; their LUTs have the gates' values at the outputs, and the
 -- gates the equations'.
+use Rattle.std.specs.Prelude.{Result}
 use Prim.Native.Nat.{ℕ, ◌≤◌, ◌<◌}
 use native.Mathlib.Omega.{arith}
 use mathlib.Core.Path.{◌≡◌, refl, sym, ap, ◌∙◌, subst}
@@ -38,7 +39,7 @@ use Rattle.compiling.specs.paper.Compiles.{Compiles, Typed, Drawable, table_room
 use Rattle.compiling.proofs.Drawables.{table_within, table_taken}
 use Rattle.compiling.proofs.One.{compiles_one}
 use Rattle.keeping.specs.paper.Right.{Right}
-use Rattle.mapping.specs.declared.Reply as mapper
+use Rattle.mapping.specs.declared.MapError.{MapError}
 use Rattle.mapping.specs.paper.Maps as mapping
 use Rattle.mapping.specs.paper.Maps.{Maps}
 use Rattle.inspecting.specs.paper.Inspecting.{sheet_in}
@@ -244,7 +245,7 @@ module _ {s : List ℕ} {k : ℕ} {sys : System} (d : Drawable s k sys) (free : 
   reads : table_of bytes ≡ table_for s k sys
   reads = ap table_of same ∙ table_back (table_for s k sys) (table_within d.typed d.numbers)
 
-  mapped : (before : List ℕ) (q : mapper.Reply) (after : List ℕ) → Maps bytes before q after → sheet_room ≤ length before →
+  mapped : (before : List ℕ) (q : Result ℕ MapError) (after : List ℕ) → Maps bytes before q after → sheet_room ≤ length before →
       (mapping.number q ≡ 0) × Serves s k sys (sheet_in bytes (take (mapping.place q) after))
   mapped before q after maps enough =
       let zero = (demand_1 bytes before q after maps).mapped.1 (taken, enough) in

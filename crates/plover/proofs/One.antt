@@ -4,9 +4,10 @@ use native.Mathlib.Omega.{arith}
 use mathlib.Core.Path.{◌≡◌, ap, sym, ◌∙◌}
 use mathlib.Core.List.{List}
 use lib.ListN.{length}
+use Rattle.std.specs.Prelude.{Result}
 use Rattle.sheet.specs.paper.Sheet.{Sheet}
 use Rattle.sheet.specs.paper.Encoding.{narrow, encode}
-use Rattle.mapping.specs.declared.Reply.{Reply}
+use Rattle.mapping.specs.declared.MapError.{MapError}
 use Rattle.mapping.specs.paper.Maps as mapper
 use Rattle.mapping.specs.paper.Maps.{MapsTo}
 use Rattle.mapping.proofs.Mapped.{with_sheet, OneReply, maps_one}
@@ -39,7 +40,7 @@ pub data OneWord (s before : List ℕ) (w v : ℕ) (a b : List ℕ) : Type 0 whe
   sheets : (x y : Sheet) → MapsTo s x → MapsTo s y → w ≡ length (encode narrow x) → v ≡ length (encode narrow y) →
       a ≡ with_sheet x before → b ≡ with_sheet y before → OneWord s before w v a b
 
-abbrev map_word : Reply → ℕ
+abbrev map_word : Result ℕ MapError → ℕ
 map_word r = word_of (mapper.number r) (mapper.place r)
 
 pub map_word_one : {s before : List ℕ} {w v : ℕ} {a b : List ℕ} → MapsAs s before w a → MapsAs s before v b → OneWord s before w v a b

@@ -1,7 +1,7 @@
 -- The demands on typed equations, over the promise of `compile` (`Compiles`), those of `map` and `inspect`, and the words of grammar and theory: "prove that the
 -- text is accepted exactly by the written grammar, and that the gate table gives each output its equation's value". What is compiled is a table that `map`
 -- takes, so the three demands hold of typed equations.
-use Rattle.std.specs.Prelude.{ℕ, ◌≤◌, ◌<◌, ◌≡◌, ◌↔◌, ◌⊎◌, Bool, List, length, get_or, take, drop}
+use Rattle.std.specs.Prelude.{ℕ, ◌≤◌, ◌<◌, ◌≡◌, ◌↔◌, ◌⊎◌, Bool, List, length, get_or, take, drop, Result}
 use Rattle.theory.specs.paper.Walk.{LowestLoop}
 use Rattle.theory.specs.paper.Lookup.{ObeysLuts}
 use Rattle.drawing.specs.paper.Table.{net_of, tables_of}
@@ -23,7 +23,7 @@ use Rattle.grammar.specs.paper.Circles.{Circular}
 use Rattle.compiling.specs.declared.Reply.{Reply}
 use Rattle.compiling.specs.paper.Compiles.{Compiles, Typed, Drawable, table_room, said, number, place}
 use Rattle.keeping.specs.paper.Right.{Right}
-use Rattle.mapping.specs.declared.Reply as mapper
+use Rattle.mapping.specs.declared.MapError.{MapError}
 use Rattle.mapping.specs.paper.Maps as mapping
 use Rattle.mapping.specs.paper.Maps.{Maps}
 use Rattle.inspecting.specs.declared.Inspection.TheVariants.{Accepted}
@@ -76,7 +76,7 @@ pub record TableWritten (s : List ℕ) (k : ℕ) (bytes : List ℕ) : Type 0 whe
   -- "the gate table gives each output its equation's value": each setting has one solution, and the gates have its values at the outputs
   pub faithful : Faithful s says (table_for s k says)
   -- so do the LUTs that `map` writes, into a buffer that is long enough
-  pub mapped : (before : List ℕ) (q : mapper.Reply) (after : List ℕ) → Maps bytes before q after → sheet_room ≤ length before →
+  pub mapped : (before : List ℕ) (q : Result ℕ MapError) (after : List ℕ) → Maps bytes before q after → sheet_room ≤ length before →
       (mapping.number q ≡ 0) × Serves s k says (sheet_in bytes (take (mapping.place q) after))
   -- and those of every sheet that `inspect` accepts for them
   pub inspected : (sheet : List ℕ) (depth : ℕ) → Inspects bytes sheet (Accepted (record { depth = depth })) → Serves s k says (sheet_in bytes sheet)
