@@ -14,7 +14,7 @@ use Rattle.mapping.proofs.Mapped.{with_sheet, OneReply, maps_one}
 use Rattle.inspecting.specs.declared.Inspection.{Inspection}
 use Rattle.inspecting.specs.paper.Inspecting as inspector
 use Rattle.inspecting.proofs.Replies.{one_reply}
-use Rattle.compiling.specs.declared.Reply as compiling
+use Rattle.compiling.specs.declared.CompileError.{CompileError}
 use Rattle.compiling.specs.paper.Compiles as compiler
 use Rattle.compiling.proofs.One.{compiles_one}
 use Rattle.plover.specs.paper.Words.{half, word_of, MapsAs, InspectsAs, CompilesAs}
@@ -57,7 +57,7 @@ inspect_word r = word_of (inspector.number r) (inspector.place r)
 pub inspect_word_one : {s t : List ℕ} {w v : ℕ} → InspectsAs s t w → InspectsAs s t v → w ≡ v
 inspect_word_one {s} {t} m n = m.word ∙ ap inspect_word (one_reply s t m.inspects n.inspects) ∙ sym n.word
 
-abbrev equations_word : compiling.Reply → ℕ
+abbrev equations_word : Result ℕ CompileError → ℕ
 equations_word r = word_of (compiler.number r) (compiler.place r)
 
 pub equations_word_one : {s : List ℕ} {k : ℕ} {before : List ℕ} {w v : ℕ} {a b : List ℕ} → CompilesAs s k before w a → CompilesAs s k before v b →

@@ -36,7 +36,7 @@ use Rattle.grammar.specs.paper.Grammar.{System}
 use Rattle.grammar.specs.paper.Names.{Misnamed}
 use Rattle.grammar.specs.paper.Gates.{table_for}
 use Rattle.grammar.proofs.Places.{use_placed, definition_placed, placed_inside}
-use Rattle.compiling.specs.declared.Reply as compiling
+use Rattle.compiling.specs.declared.CompileError.{CompileError}
 use Rattle.compiling.specs.paper.Compiles as compiler
 use Rattle.compiling.specs.paper.Compiles.{Typed, Drawable, Compiles}
 use Rattle.compiling.proofs.Drawables.{table_within, table_fits}
@@ -141,7 +141,7 @@ table_nodes : {s : List ℕ} {k : ℕ} {sys : System} → Drawable s k sys → (
 unfolding net_of
 table_nodes drawable = (table_within drawable.typed drawable.numbers).nodes_most
 
-pub equations_place : {s : List ℕ} {k : ℕ} {before : List ℕ} (r : compiling.Reply) {after : List ℕ} → Compiles s k before r after → compiler.place r < half
+pub equations_place : {s : List ℕ} {k : ℕ} {before : List ℕ} (r : Result ℕ CompileError) {after : List ℕ} → Compiles s k before r after → compiler.place r < half
 equations_place r (Compiles.long over is same) = omega (arith, ap compiler.place is)
 equations_place r (Compiles.ungrammatical short none longest is same) = omega (arith, ap compiler.place is, longest.shared.within)
 equations_place r (Compiles.misnamed typed first is same) = omega (arith, ap compiler.place is, misnamed_inside typed first.misnamed)

@@ -13,8 +13,8 @@ use Rattle.mapping.specs.paper.Maps as mapper
 use Rattle.inspecting.specs.declared.Inspection.{Inspection}
 use Rattle.inspecting.specs.declared.Inspection.TheVariants.{Accepted, Refused, LoopAt, Shape, Cut, Label, Paths, Cover, Function, Depth}
 use Rattle.inspecting.specs.paper.Inspecting as inspector
-use Rattle.compiling.specs.declared.Reply as compiling
-use Rattle.compiling.specs.declared.Reply.TheVariants as compiled
+use Rattle.compiling.specs.declared.CompileError.{CompileError}
+use Rattle.compiling.specs.declared.CompileError.TheVariants as compiling
 use Rattle.compiling.specs.paper.Compiles as compiler
 use Rattle.plover.specs.paper.Words.{half, word_of}
 
@@ -47,13 +47,13 @@ inspect_number (Cover gate) = omega arith
 inspect_number (Function gate) = omega arith
 inspect_number Depth = omega arith
 
-equations_number : (r : compiling.Reply) → compiler.number r < half
-equations_number (compiled.Compiled n) = omega arith
-equations_number (compiled.Text at) = omega arith
-equations_number (compiled.Name at) = omega arith
-equations_number compiled.Numbers = omega arith
-equations_number (compiled.LoopAt gate) = omega arith
-equations_number compiled.Room = omega arith
+equations_number : (r : Result ℕ CompileError) → compiler.number r < half
+equations_number (Ok n) = omega arith
+equations_number (Err (compiling.Text at)) = omega arith
+equations_number (Err (compiling.Name at)) = omega arith
+equations_number (Err compiling.Numbers) = omega arith
+equations_number (Err (compiling.LoopAt gate)) = omega arith
+equations_number (Err compiling.Room) = omega arith
 
 -- what a word is made of fits its halves
 pub map_fits : (r : Result ℕ MapError) {a b : ℕ} → a ≡ mapper.number r → b ≡ mapper.place r → mapper.place r < half → (a < half) × (b < half)
@@ -62,5 +62,5 @@ map_fits r number_is place_is fits = (omega (arith, number_is, map_number r), om
 pub inspect_fits : (r : Inspection) {a b : ℕ} → a ≡ inspector.number r → b ≡ inspector.place r → inspector.place r < half → (a < half) × (b < half)
 inspect_fits r number_is place_is fits = (omega (arith, number_is, inspect_number r), omega (arith, place_is, fits))
 
-pub equations_fits : (r : compiling.Reply) {a b : ℕ} → a ≡ compiler.number r → b ≡ compiler.place r → compiler.place r < half → (a < half) × (b < half)
+pub equations_fits : (r : Result ℕ CompileError) {a b : ℕ} → a ≡ compiler.number r → b ≡ compiler.place r → compiler.place r < half → (a < half) × (b < half)
 equations_fits r number_is place_is fits = (omega (arith, number_is, equations_number r), omega (arith, place_is, fits))

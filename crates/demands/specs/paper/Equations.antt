@@ -20,7 +20,7 @@ use Rattle.grammar.specs.paper.Gates.{table_for, InNumbers}
 use Rattle.grammar.specs.paper.Meaning.{Solves}
 use Rattle.grammar.specs.paper.Faithful.{Faithful}
 use Rattle.grammar.specs.paper.Circles.{Circular}
-use Rattle.compiling.specs.declared.Reply.{Reply}
+use Rattle.compiling.specs.declared.CompileError.{CompileError}
 use Rattle.compiling.specs.paper.Compiles.{Compiles, Typed, Drawable, table_room, said, number, place}
 use Rattle.keeping.specs.paper.Right.{Right}
 use Rattle.mapping.specs.declared.MapError.{MapError}
@@ -41,9 +41,9 @@ pub data CompilerRefuses (s : List ℕ) (k : ℕ) (before : List ℕ) : ℕ × �
   loop : {sys : System} {g : ℕ} → Drawable s k sys → LowestLoop (net_of (table_for s k sys)) g → CompilerRefuses s k before (loop_number, g)
   room : {sys : System} → Drawable s k sys → (Circular s sys → ⊥) → length before < table_room → CompilerRefuses s k before (room_number, table_room)
 
-pub record CompilerReplies (s : List ℕ) (k : ℕ) (before : List ℕ) (r : Reply) (after : List ℕ) : Type 0 where
+pub record CompilerReplies (s : List ℕ) (k : ℕ) (before : List ℕ) (r : Result ℕ CompileError) (after : List ℕ) : Type 0 where
   -- one reply, and one buffer
-  pub one : (q : Reply) (after' : List ℕ) → Compiles s k before q after' → (r ≡ q) × (after ≡ after')
+  pub one : (q : Result ℕ CompileError) (after' : List ℕ) → Compiles s k before q after' → (r ≡ q) × (after ≡ after')
   -- each refusal exactly when it is due, with its place
   pub refused : (x : ℕ × ℕ) → CompilerRefuses s k before x ↔ ((said r ≡ x) × (x.0 ≡ 0 → ⊥))
   -- "the text is accepted exactly by the written grammar": refused for its text exactly if it has more than 8,192 bytes or is not in the grammar
@@ -81,11 +81,11 @@ pub record TableWritten (s : List ℕ) (k : ℕ) (bytes : List ℕ) : Type 0 whe
   -- and those of every sheet that `inspect` accepts for them
   pub inspected : (sheet : List ℕ) (depth : ℕ) → Inspects bytes sheet (Accepted (record { depth = depth })) → Serves s k says (sheet_in bytes sheet)
 
-pub record EquationsAnswered (s : List ℕ) (k : ℕ) (before : List ℕ) (r : Reply) (after : List ℕ) : Type 0 where
+pub record EquationsAnswered (s : List ℕ) (k : ℕ) (before : List ℕ) (r : Result ℕ CompileError) (after : List ℕ) : Type 0 where
   pub replies : CompilerReplies s k before r after
   -- compiled, the place is the table's length, and the table stands at the buffer's front
   pub inside : number r ≡ 0 → place r ≤ length after
   pub written : number r ≡ 0 → TableWritten s k (take (place r) after)
 
 abbrev pub DemandEquations : Type 0
-DemandEquations = (s : List ℕ) (k : ℕ) (before : List ℕ) (r : Reply) (after : List ℕ) → Compiles s k before r after → EquationsAnswered s k before r after
+DemandEquations = (s : List ℕ) (k : ℕ) (before : List ℕ) (r : Result ℕ CompileError) (after : List ℕ) → Compiles s k before r after → EquationsAnswered s k before r after

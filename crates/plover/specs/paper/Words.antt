@@ -5,7 +5,7 @@ use Rattle.mapping.specs.declared.MapError.{MapError}
 use Rattle.mapping.specs.paper.Maps as mapper
 use Rattle.inspecting.specs.declared.Inspection.{Inspection}
 use Rattle.inspecting.specs.paper.Inspecting as inspector
-use Rattle.compiling.specs.declared.Reply as compiling
+use Rattle.compiling.specs.declared.CompileError.{CompileError}
 use Rattle.compiling.specs.paper.Compiles as compiler
 
 -- 2 to the 32
@@ -31,7 +31,7 @@ pub record InspectsAs (s t : List ℕ) (w : ℕ) : Type 0 where
 
 -- A word for the reply to a text of equations, which leaves the buffer as `compile` does.
 pub record CompilesAs (s : List ℕ) (k : ℕ) (before : List ℕ) (w : ℕ) (after : List ℕ) : Type 0 where
-  pub reply : compiling.Reply
+  pub reply : Result ℕ CompileError
   pub compiles : compiler.Compiles s k before reply after
   pub fits : compiler.place reply < half
   pub word : w ≡ word_of (compiler.number reply) (compiler.place reply)
