@@ -3,7 +3,7 @@ ghost use Rattle.std.specs.Prelude.{◌≤◌, length};
 ghost use Rattle.compiling.specs.paper.Compiles.{table_room};
 ghost use Rattle.compiling.specs.Stages.{Ready, GateAsked, GateWritten, GatesWritten, OutputsAsked, OutputsWritten, TableWritten, TableHere, Stores, JudgedBytes};
 
-use crate::{Reply, TABLE_ROOM};
+use crate::{CompileError, TABLE_ROOM};
 use drawing::limits::{MOST_NODES, MOST_OUTPUTS, MOST_PLACES};
 use naming::Equations;
 use naming::arrays::{left_at, place_at, right_at, table_at};
@@ -85,23 +85,15 @@ fn judge(written: &[u8]) -> Result<Numbers, TakeError>
 }
 
 // 7, then 8; else the table goes to the caller.
-pub fn store_table(written: &[u8], table: &mut [u8]) -> Reply
+pub fn store_table(written: &[u8], table: &mut [u8]) -> Result<usize, CompileError>
     requires { TableHere written.now }
     ensures { Stores written.now table.old result table.new }
 {
-    let taken = judge(written);
-    match taken {
-        Ok(_) => {
-            if table.len() < TABLE_ROOM {
-                return Reply::Room;
-            }
-            let length = written.len();
-            table[..length].copy_from_slice(written);
-            Reply::Compiled(length)
-        }
-        Err(TakeError::LoopAt(gate)) => Reply::LoopAt(gate),
-        // never given: the table reads whole, and the arrays have the lengths that `take_table` asks
-        Err(TakeError::Refused(_)) => Reply::Room,
-        Err(TakeError::TooShort) => Reply::Room,
+    judge(written)?;
+    if table.len() < TABLE_ROOM {
+        return Err(CompileError::Room);
     }
+    let length = written.len();
+    table[..length].copy_from_slice(written);
+    Ok(length)
 }
