@@ -3,27 +3,14 @@ use native.Mathlib.Omega.{arith}
 use Rattle.std.proofs.Common.{rules}
 use Rattle.storage.proofs.Drawings.{drawn_span}
 use Rattle.storage.proofs.InMarks.{tells_no}
-use Rattle.walking.proofs.WalkLoops.{cut_some, cut_met, cut_stops, cut_whole}
+use Rattle.walking.proofs.WalkLoops.{cut_met, cut_stops, cut_whole}
 use Rattle.walking.proofs.is_cut.Goals as goal
-use Rattle.walking.proofs.is_cut.Goals.{then-size-eq0-via-then-size-eq0, then-size-eq0-via-else-size-eq0+then-size-net}
-use Rattle.walking.proofs.is_cut.Goals.{then-size-eq0-via-else-size-eq0+else-size-net+then-not-is_rising}
-use Rattle.walking.proofs.is_cut.Goals.{then-size-eq0-via-else-size-eq0+else-size-net+else-not-is_rising+then-not-leaves_met}
 
-pub returns-then-size-eq0 : goal.returns-then-size-eq0
-returns-then-size-eq0 c =
+pub returns-then-not-leaves_met : goal.returns-then-not-leaves_met
+returns-then-not-leaves_met c =
     let made = c.walk.ensures in
-    record {
-      reply = tells_no (λ cut.
-          elim c.then-size-eq0.branch [
-            | then-size-eq0-via-then-size-eq0 w ↦ omega (arith, w.if-size-eq0.true, (cut_some c.requires made cut).0)
-            | then-size-eq0-via-else-size-eq0+then-size-net w ↦ omega (arith, w.if-size-net.true, (cut_some c.requires made cut).1)
-            | then-size-eq0-via-else-size-eq0+else-size-net+then-not-is_rising w ↦
-                w.is_rising.ensures.no w.if-not-is_rising.true cut.rising
-            | then-size-eq0-via-else-size-eq0+else-size-net+else-not-is_rising+then-not-leaves_met w ↦
-                w.leaves_met.ensures.no w.if-not-leaves_met.true (cut_met c.requires made cut)
-          ]);
-      walk = made;
-    }
+    let unmet = c.leaves_met.ensures.no c.if-not-leaves_met.true in
+    record { reply = tells_no (λ cut. unmet (cut_met c.requires made cut)); walk = made }
 
 pub inputs_stop-requires : goal.inputs_stop-requires
 inputs_stop-requires c =
