@@ -64,16 +64,11 @@ pub fn is_cut(net: Net, gate: Node, leaves: &[u16], roles: &mut [u8]) -> bool
         roles.old result roles.new }
 {
     walk(net, gate, leaves, roles);
-    if leaves.is_empty() {
-        return false;
-    }
-    if leaves.len() > net.numbers.k.leaves as usize {
-        return false;
-    }
-    if !cones::is_rising(leaves) {
-        return false;
-    }
-    if !cones::leaves_met(leaves, net.numbers.nodes, roles) {
+    if leaves.is_empty()
+        || leaves.len() > net.numbers.k.leaves as usize
+        || !cones::is_rising(leaves)
+        || !cones::leaves_met(leaves, net.numbers.nodes, roles)
+    {
         return false;
     }
     cones::inputs_stop(leaves, net.numbers.inputs, roles)

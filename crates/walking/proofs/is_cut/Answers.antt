@@ -5,12 +5,25 @@ use Rattle.storage.proofs.Drawings.{drawn_span}
 use Rattle.storage.proofs.InMarks.{tells_no}
 use Rattle.walking.proofs.WalkLoops.{cut_met, cut_stops, cut_whole}
 use Rattle.walking.proofs.is_cut.Goals as goal
+use Rattle.walking.proofs.is_cut.Goals.{then-is_empty-via-then-is_empty, then-is_empty-via-else-is_empty+then-leaves-net}
+use Rattle.walking.proofs.is_cut.Goals.{then-is_empty-via-else-is_empty+else-leaves-net+then-not-is_rising}
+use Rattle.walking.proofs.is_cut.Goals.{then-is_empty-via-else-is_empty+else-leaves-net+else-not-is_rising+then-not-leaves_met}
 
-pub returns-then-not-leaves_met : goal.returns-then-not-leaves_met
-returns-then-not-leaves_met c =
+pub returns-then-is_empty : goal.returns-then-is_empty
+returns-then-is_empty c =
     let made = c.walk.ensures in
-    let unmet = c.leaves_met.ensures.no c.if-not-leaves_met.true in
-    record { reply = tells_no (λ cut. unmet (cut_met c.requires made cut)); walk = made }
+    record {
+      reply = tells_no (λ cut.
+          elim c.then-is_empty.branch [
+            | then-is_empty-via-then-is_empty w ↦ let some = cut.some in search (w.if-is_empty.true, c.is_empty.ensures, some, rules, arith)
+            | then-is_empty-via-else-is_empty+then-leaves-net w ↦ omega (arith, w.if-leaves-net.true, cut.few)
+            | then-is_empty-via-else-is_empty+else-leaves-net+then-not-is_rising w ↦
+                w.is_rising.ensures.no w.if-not-is_rising.true cut.rising
+            | then-is_empty-via-else-is_empty+else-leaves-net+else-not-is_rising+then-not-leaves_met w ↦
+                w.leaves_met.ensures.no w.if-not-leaves_met.true (cut_met c.requires made cut)
+          ]);
+      walk = made;
+    }
 
 pub inputs_stop-requires : goal.inputs_stop-requires
 inputs_stop-requires c =
