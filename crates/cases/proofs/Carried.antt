@@ -16,7 +16,7 @@ use Rattle.theory.proofs.DecideNet.{is_bounded, decides_bounded, NothingBeyond}
 use Rattle.theory.proofs.DecideCut.{is_lowest_loop, decides_lowest_loop}
 use Rattle.theory.proofs.Walks.{no_loop}
 use Rattle.storage.specs.declared.Numbers.{Numbers}
-use Rattle.std.specs.Prelude.{Ok}
+use Rattle.std.specs.Prelude.{Ok, Result}
 use Rattle.drawing.specs.paper.Table.{Table, net_of, tables_of}
 use Rattle.drawing.specs.paper.Fields.{head_g}
 use Rattle.drawing.specs.paper.Reading.{found, table_of, numbers_of}
@@ -37,7 +37,7 @@ use Rattle.keeping.proofs.Printed.{depths_listed}
 use Rattle.keeping.proofs.Kept.{kept_is_right}
 use Rattle.keeping.proofs.One.{mappers_sheet_is_one, mapping_one}
 use Rattle.wording.specs.paper.Text as text
-use Rattle.mapping.specs.declared.Reply.{Reply}
+use Rattle.mapping.specs.declared.MapError.{MapError}
 use Rattle.mapping.specs.paper.Maps.{Maps}
 use Rattle.mapping.specs.paper.Maps as mapper
 use Rattle.listing.specs.paper.Lists.{Listing}
@@ -165,7 +165,7 @@ module _ (s : List ℕ) (table : Table) (sheet : Sheet) (size : ℕ) (prints : L
       lists_mapped listed here (subst (λ (t : Table). SheetOf t sheet) (sym same) is.mappers) ∙ ap (λ (t : Table). text.listing_of (mapping_of t sheet)) same
       ∙ parts.listed
 
-  replies : (before : List ℕ) (r : Reply) (after : List ℕ) → Maps s before r after → sheet_room ≤ length before → mapper.said r ≡ (0, size)
+  replies : (before : List ℕ) (r : Result ℕ MapError) (after : List ℕ) → Maps s before r after → sheet_room ≤ length before → mapper.said r ≡ (0, size)
   replies before r after (Maps.refused {x = x} e p a) long =
       absurd (omega (arith, ap number (says_one (Says.taken here) (Says.refused e)), (refusal_number x).0))
   replies before r after (Maps.loop e l p a) long = absurd (some_loop here.no_loop l)
@@ -195,7 +195,7 @@ module _ (s : List ℕ) (table : Table) (lowest : ℕ) (prints : List String) (r
   loops_refused refused line listing (Listing.refused says some) = ap (λ (r : Taking). text.refused_line (number r) (place r)) (says_one says refused) ∙ line
   loops_refused refused line listing (Listing.listed sheet t _ _) = absurd (omega (arith, ap number (says_one (Says.taken t) refused)))
 
-  loops_replied : Says s (loop_at lowest) → (before : List ℕ) (r : Reply) (after : List ℕ) → Maps s before r after → mapper.said r ≡ said (loop_at lowest)
+  loops_replied : Says s (loop_at lowest) → (before : List ℕ) (r : Result ℕ MapError) (after : List ℕ) → Maps s before r after → mapper.said r ≡ said (loop_at lowest)
   loops_replied refused before r after (Maps.refused {x = x} e p a) =
       absurd (omega (arith, ap number (says_one (Says.refused e) refused), (refusal_number x).1))
   loops_replied refused before r after (Maps.loop e l p a) = ap mapper.said p ∙ ap said (says_one (Says.loop e l) refused)

@@ -78,7 +78,6 @@ module _ {s gates names : List ℕ} {k : ℕ} {c : Counts} (ready : Ready s k ga
           let inputs = inputs_is in
           record {
             gates_long = omega (arith, ready.right.scanned.gates_long);
-            names_long = omega (arith, ready.right.scanned.names_long);
             left_low = omega (arith, left_low stored k j low, stored.made_said);
             right_low = omega (arith, right_low stored k j low, stored.made_said);
             room = subst (λ (g : GateLine). Room table at (gate_field narrow_table g)) stands (gate_room (ready_table ready) j more w whole_room);
@@ -115,42 +114,38 @@ module _ {s gates names : List ℕ} {k : ℕ} {c : Counts} (ready : Ready s k ga
     outputs_written j all w = outputs_all (ready_table ready) j (omega (arith, outputs_size ready.right.scanned.stored k)) w
 
 -- The loops. What stood in the buffer before is any list into which what came first was written.
-abbrev counts_with : (inputs definitions gates outputs : ℕ) → Counts
-counts_with inputs definitions gates outputs = record { inputs = inputs; definitions = definitions; gates = gates; outputs = outputs }
-
-pub record GatesSofar (s gates names table₀ : List ℕ) (inputs made definitions at₀ : ℕ) (table : List ℕ) (at j : ℕ) : Type 0 where
+pub record GatesSofar (s gates names table₀ : List ℕ) (c : Counts) (at₀ : ℕ) (table : List ℕ) (at j : ℕ) : Type 0 where
   pub size : length table ≡ length table₀
-  pub written : (k outputs : ℕ) (ready : Ready s k gates names (counts_with inputs definitions made outputs)) (before : List ℕ) → table_room ≤ length before →
+  pub written : (k : ℕ) (ready : Ready s k gates names c) (before : List ℕ) → table_room ≤ length before →
       Written before 0 (gates_done (ready_table ready) 0) table₀ at₀ → Written before 0 (gates_done (ready_table ready) j) table at
 
-module _ {s gates names table₀ : List ℕ} {inputs made definitions at₀ : ℕ} where
-  pub gates_sofar_none : GatesSofar s gates names table₀ inputs made definitions at₀ table₀ at₀ 0
-  gates_sofar_none = record { size = refl; written = λ k outputs ready before room w. w }
+module _ {s gates names table₀ : List ℕ} {c : Counts} {at₀ : ℕ} where
+  pub gates_sofar_none : GatesSofar s gates names table₀ c at₀ table₀ at₀ 0
+  gates_sofar_none = record { size = refl; written = λ k ready before room w. w }
 
-  pub gates_sofar_more : {table after : List ℕ} {at next j : ℕ} → GatesSofar s gates names table₀ inputs made definitions at₀ table at j → j < made →
-      GateWritten s gates j names definitions inputs table at after next → GatesSofar s gates names table₀ inputs made definitions at₀ after next (j + 1)
+  pub gates_sofar_more : {table after : List ℕ} {at next j : ℕ} → GatesSofar s gates names table₀ c at₀ table at j → j < c.gates →
+      GateWritten s gates j names c.definitions c.inputs table at after next → GatesSofar s gates names table₀ c at₀ after next (j + 1)
   gates_sofar_more sofar less one =
       record {
         size = same_size one ∙ sofar.size;
-        written = λ k outputs ready before room w. gate_written ready before room less (sofar.written k outputs ready before room w) one;
+        written = λ k ready before room w. gate_written ready before room less (sofar.written k ready before room w) one;
       }
 
-pub record OutputsSofar (s names table₀ : List ℕ) (start definitions outputs : ℕ) (table : List ℕ) (at j : ℕ) : Type 0 where
+pub record OutputsSofar (s names table₀ : List ℕ) (start : ℕ) (c : Counts) (table : List ℕ) (at j : ℕ) : Type 0 where
   pub size : length table ≡ length table₀
-  pub written : (k inputs made : ℕ) (gates : List ℕ) (ready : Ready s k gates names (counts_with inputs definitions made outputs)) (before : List ℕ) →
-      table_room ≤ length before → Written before 0 (outputs_done (ready_table ready) 0) table₀ start →
-      Written before 0 (outputs_done (ready_table ready) j) table at
+  pub written : (k : ℕ) (gates : List ℕ) (ready : Ready s k gates names c) (before : List ℕ) → table_room ≤ length before →
+      Written before 0 (outputs_done (ready_table ready) 0) table₀ start → Written before 0 (outputs_done (ready_table ready) j) table at
 
-module _ {s names table₀ : List ℕ} {start definitions outputs : ℕ} where
-  pub outputs_sofar_none : OutputsSofar s names table₀ start definitions outputs table₀ start 0
-  outputs_sofar_none = record { size = refl; written = λ k inputs made gates ready before room w. w }
+module _ {s names table₀ : List ℕ} {start : ℕ} {c : Counts} where
+  pub outputs_sofar_none : OutputsSofar s names table₀ start c table₀ start 0
+  outputs_sofar_none = record { size = refl; written = λ k gates ready before room w. w }
 
-  pub outputs_sofar_more : {table after : List ℕ} {at next j node : ℕ} → OutputsSofar s names table₀ start definitions outputs table at j → j < outputs →
-      node ≡ node_named s names definitions (place_in names (definitions + j)) → Written table at (output_field narrow_table node) after next →
-      OutputsSofar s names table₀ start definitions outputs after next (j + 1)
+  pub outputs_sofar_more : {table after : List ℕ} {at next j node : ℕ} → OutputsSofar s names table₀ start c table at j → j < c.outputs →
+      node ≡ node_named s names c.definitions (place_in names (c.definitions + j)) → Written table at (output_field narrow_table node) after next →
+      OutputsSofar s names table₀ start c after next (j + 1)
   outputs_sofar_more sofar less is one =
       record {
         size = same_size one ∙ sofar.size;
-        written = λ k inputs made gates ready before room w.
-            output_written ready before room less (sofar.written k inputs made gates ready before room w) is one;
+        written = λ k gates ready before room w.
+            output_written ready before room less (sofar.written k gates ready before room w) is one;
       }

@@ -1,10 +1,12 @@
 -- What `compile`'s stages ask and promise. A text that was read is known by what its arrays hold.
-use Rattle.std.specs.Prelude.{ℕ, ◌+◌, ◌*◌, ◌≤◌, ◌<◌, ◌≡◌, Bool, ◌&&◌, List, ◌++◌, length, drop, leb}
+use Rattle.std.specs.Prelude.{ℕ, ◌+◌, ◌*◌, ◌≤◌, ◌<◌, ◌≡◌, Bool, ◌&&◌, List, ◌++◌, length, drop, leb, Result, Ok, Err}
 use Rattle.drawing.specs.paper.Limits.{least_k, most_k, most_inputs, most_nodes, most_outputs}
 use Rattle.drawing.specs.paper.Forms.{narrow_table}
 use Rattle.theory.specs.paper.Walk.{LowestLoop, NoLoop}
 use Rattle.storage.specs.declared.Node.{Node}
 use Rattle.drawing.specs.paper.Table.{Table, net_of}
+use Rattle.taking.specs.declared.TakeError.{TakeError}
+use Rattle.taking.specs.declared.TakeError.TheVariants as taking
 use Rattle.taking.specs.paper.Says.{Taking}
 use Rattle.sheet.specs.Writing.{Room, Written}
 use Rattle.tabling.specs.paper.Encoding.{gate_field, encode}
@@ -19,8 +21,8 @@ use Rattle.scanning.specs.declared.Counts.{Counts}
 use Rattle.scanning.specs.Scanning.{counts_of}
 use Rattle.naming.specs.Stored.{Stored, node_named}
 use Rattle.naming.specs.Lines.{three_in, line_of}
-use Rattle.compiling.specs.declared.Reply.{Reply}
-use Rattle.compiling.specs.declared.Reply.TheVariants.{Compiled, LoopAt, Room as RoomShort}
+use Rattle.compiling.specs.declared.CompileError.{CompileError}
+use Rattle.compiling.specs.declared.CompileError.TheVariants.{LoopAt, Room as RoomShort}
 use Rattle.compiling.specs.paper.Compiles.{Typed, table_room}
 
 -- "K, inputs, nodes or outputs" inside "01's numbers", by the counts
@@ -54,7 +56,6 @@ ready_table {s} {k = k} ready = table_for s k ready.right.scanned.says
 -- One gate from the arrays.
 pub record GateAsked (s gates : List ℕ) (gate : ℕ) (names : List ℕ) (definitions inputs : ℕ) (table : List ℕ) (at : ℕ) : Type 0 where
   pub gates_long : 3 * (gate + 1) ≤ length gates
-  pub names_long : 2 * definitions ≤ length names
   pub left_low : inputs + (three_in gates gate).left ≤ most_text + 32767
   pub right_low : inputs + (three_in gates gate).right ≤ most_text + 32767
   pub room : Room table at (gate_field narrow_table (line_of (node_named s names definitions) inputs (three_in gates gate)))
@@ -94,12 +95,18 @@ pub record TableHere (bytes : List ℕ) : Type 0 where
 abbrev pub JudgedBytes : (bytes : List ℕ) → Taking → Type 0
 JudgedBytes bytes r = (table : Table) → Within table → bytes ≡ encode table → Judged table r
 
+-- a table that is not taken is not stored; one that was written here is never refused, nor an array too short for it
+abbrev pub error_of : TakeError → CompileError
+error_of (taking.Refused x) = RoomShort
+error_of (taking.LoopAt g) = LoopAt g
+error_of taking.TooShort = RoomShort
+
 -- 7, then 8; else the bytes stand at the front of the buffer
-pub data Kept (table : Table) (bytes before : List ℕ) (r : Reply) (after : List ℕ) : Type 0 where
-  loop : {g : Node} → LowestLoop (net_of table) g.id → r ≡ LoopAt g → after ≡ before → Kept table bytes before r after
-  room : NoLoop (net_of table) → length before < table_room → r ≡ RoomShort → after ≡ before → Kept table bytes before r after
-  stored : NoLoop (net_of table) → table_room ≤ length before → r ≡ Compiled (length bytes) → after ≡ bytes ++ drop (length bytes) before →
+pub data Kept (table : Table) (bytes before : List ℕ) (r : Result ℕ CompileError) (after : List ℕ) : Type 0 where
+  loop : {g : Node} → LowestLoop (net_of table) g.id → r ≡ Err (LoopAt g) → after ≡ before → Kept table bytes before r after
+  room : NoLoop (net_of table) → length before < table_room → r ≡ Err RoomShort → after ≡ before → Kept table bytes before r after
+  stored : NoLoop (net_of table) → table_room ≤ length before → r ≡ Ok (length bytes) → after ≡ bytes ++ drop (length bytes) before →
       Kept table bytes before r after
 
-abbrev pub Stores : (bytes before : List ℕ) (r : Reply) (after : List ℕ) → Type 0
+abbrev pub Stores : (bytes before : List ℕ) (r : Result ℕ CompileError) (after : List ℕ) → Type 0
 Stores bytes before r after = (table : Table) → Within table → bytes ≡ encode table → Kept table bytes before r after

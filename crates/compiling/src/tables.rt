@@ -3,94 +3,66 @@ ghost use Rattle.std.specs.Prelude.{◌≤◌, length};
 ghost use Rattle.compiling.specs.paper.Compiles.{table_room};
 ghost use Rattle.compiling.specs.Stages.{Ready, GateAsked, GateWritten, GatesWritten, OutputsAsked, OutputsWritten, TableWritten, TableHere, Stores, JudgedBytes};
 
-use crate::{Reply, TABLE_ROOM};
+use crate::{CompileError, TABLE_ROOM};
 use drawing::limits::{MOST_NODES, MOST_OUTPUTS, MOST_PLACES};
+use naming::Equations;
 use naming::arrays::{left_at, place_at, right_at, table_at};
 use naming::nodes::{node_of, operand_node};
-use scanning::Counts;
 use storage::{CutSize, Numbers};
 use tabling::{put_gate, put_output, put_table_head};
 use taking::{TakeError, take_table};
 
 // One gate, its operands' nodes looked up.
-fn write_gate(
-    text: &[u8],
-    gates: &[u16],
-    gate: usize,
-    names: &[u16],
-    definitions: usize,
-    inputs: usize,
-    table: &mut [u8],
-    at: usize,
-) -> usize
-    requires { GateAsked text.now gates.now gate names.now definitions inputs table.old at }
-    ensures { GateWritten text.now gates.now gate names.now definitions inputs table.old at table.new result }
+fn write_gate(equations: Equations, gate: usize, table: &mut [u8], at: usize) -> usize
+    requires { GateAsked equations.text.now equations.gates.now gate equations.names.now equations.counts.definitions equations.counts.inputs
+        table.old at }
+    ensures { GateWritten equations.entry.text.now equations.entry.gates.now gate equations.entry.names.now equations.entry.counts.definitions
+        equations.entry.counts.inputs table.old at table.new result }
 {
-    let left = operand_node(text, names, definitions, inputs, left_at(gates, gate));
-    let right = operand_node(text, names, definitions, inputs, right_at(gates, gate));
-    let rows = table_at(gates, gate);
+    let left = operand_node(equations, left_at(equations.gates, gate));
+    let right = operand_node(equations, right_at(equations.gates, gate));
+    let rows = table_at(equations.gates, gate);
     put_gate(table, at, left, right, rows as u64)
 }
 
 // All gates, behind the head.
-fn write_gates(
-    text: &[u8],
-    k: CutSize,
-    gates: &[u16],
-    names: &[u16],
-    counts: Counts,
-    table: &mut [u8],
-) -> usize
-    requires ready { Ready text.now k.leaves gates.now names.now counts }
+fn write_gates(equations: Equations, k: CutSize, table: &mut [u8]) -> usize
+    requires ready { Ready equations.text.now k.leaves equations.gates.now equations.names.now equations.counts }
     requires table_room_in_bounds { table_room ≤ length table.old }
-    ensures { GatesWritten text.now k.leaves gates.now names.now counts table.old table.new result }
+    ensures { GatesWritten equations.entry.text.now k.leaves equations.entry.gates.now equations.entry.names.now equations.entry.counts
+        table.old table.new result }
 {
-    let inputs = counts.inputs;
-    let made = counts.gates;
-    let definitions = counts.definitions;
-    let mut at = put_table_head(table, k, inputs, made);
-    for gate in 0..made {
-        at = write_gate(text, gates, gate, names, definitions, inputs, table, at);
+    let counts = equations.counts;
+    let mut at = put_table_head(table, k, counts.inputs, counts.gates);
+    for gate in 0..counts.gates {
+        at = write_gate(equations, gate, table, at);
     }
     at
 }
 
 // All outputs, from `start` on.
-fn write_outputs(
-    text: &[u8],
-    names: &[u16],
-    counts: Counts,
-    table: &mut [u8],
-    start: usize,
-) -> usize
-    requires { OutputsAsked text.now names.now counts table.old start }
-    ensures { OutputsWritten text.now names.now counts table.old start table.new result }
+fn write_outputs(equations: Equations, table: &mut [u8], start: usize) -> usize
+    requires { OutputsAsked equations.text.now equations.names.now equations.counts table.old start }
+    ensures { OutputsWritten equations.entry.text.now equations.entry.names.now equations.entry.counts table.old start table.new result }
 {
-    let definitions = counts.definitions;
-    let outputs = counts.outputs;
+    let counts = equations.counts;
     let mut at = start;
-    for i in 0..outputs {
-        let node = node_of(text, names, definitions, place_at(names, definitions + i));
+    for i in 0..counts.outputs {
+        let node = node_of(equations, place_at(equations.names, counts.definitions + i));
         at = put_output(table, at, node);
     }
     at
 }
 
 // The whole table at the front of a buffer.
-pub fn write_table(
-    text: &[u8],
-    k: CutSize,
-    gates: &[u16],
-    names: &[u16],
-    counts: Counts,
-    table: &mut [u8],
-) -> usize
-    requires ready { Ready text.now k.leaves gates.now names.now counts }
+pub fn write_table(equations: Equations, k: CutSize, table: &mut [u8]) -> usize
+    requires ready { Ready equations.text.now k.leaves equations.gates.now equations.names.now equations.counts }
     requires table_room_in_bounds { table_room ≤ length table.old }
-    ensures { TableWritten text.now k.leaves gates.now names.now counts table.old table.new result }
+    ensures { TableWritten equations.entry.text.now k.leaves equations.entry.gates.now equations.entry.names.now equations.entry.counts
+        table.old table.new result }
 {
-    let start = write_gates(text, k, gates, names, counts, table);
-    write_outputs(text, names, counts, table, start)
+    let start = write_gates(equations, k, table);
+    write_outputs(equations, table, start)
 }
 
 // Taken, or refused for a loop: the table's gates are put in order, in arrays of its own.
@@ -113,23 +85,15 @@ fn judge(written: &[u8]) -> Result<Numbers, TakeError>
 }
 
 // 7, then 8; else the table goes to the caller.
-pub fn store_table(written: &[u8], table: &mut [u8]) -> Reply
+pub fn store_table(written: &[u8], table: &mut [u8]) -> Result<usize, CompileError>
     requires { TableHere written.now }
     ensures { Stores written.now table.old result table.new }
 {
-    let taken = judge(written);
-    match taken {
-        Ok(_) => {
-            if table.len() < TABLE_ROOM {
-                return Reply::Room;
-            }
-            let length = written.len();
-            table[..length].copy_from_slice(written);
-            Reply::Compiled(length)
-        }
-        Err(TakeError::LoopAt(gate)) => Reply::LoopAt(gate),
-        // never given: the table reads whole, and the arrays have the lengths that `take_table` asks
-        Err(TakeError::Refused(_)) => Reply::Room,
-        Err(TakeError::TooShort) => Reply::Room,
+    judge(written)?;
+    if table.len() < TABLE_ROOM {
+        return Err(CompileError::Room);
     }
+    let length = written.len();
+    table[..length].copy_from_slice(written);
+    Ok(length)
 }

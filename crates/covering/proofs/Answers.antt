@@ -3,7 +3,7 @@ use Prim.Native.Nat.{ℕ}
 use mathlib.Core.Path.{◌≡◌, ap, sym, ◌∙◌}
 use mathlib.Core.Logic.{◌⊎◌, inl, inr}
 use mathlib.Core.List.{List}
-use lib.ListN.{get_or, take}
+use lib.ListN.{get_or}
 use lib.Seq.{ext_get_or}
 use Rattle.storage.specs.Drawings.{net_in, tables_in}
 use Rattle.storage.proofs.Clears.{agree}
@@ -13,13 +13,13 @@ use Rattle.walking.proofs.Orders.{drawn_ranked}
 use Rattle.covering.specs.Cones.{ConeAsked, ConeAnswered}
 use Rattle.covering.specs.Covers.{is_root, lut_count, CoverMade, GateAmong, GatesMarked}
 
-pub cone_answer_once : {inputs nodes k : ℕ} {fanins rows order : List ℕ} {t : ℕ} {leaves : List ℕ} {size room : ℕ} →
-    ConeAsked inputs nodes k fanins rows order t leaves size room → {before after after' : List ℕ} {r r' : ℕ} →
-    ConeAnswered inputs nodes fanins rows t leaves size before r after → ConeAnswered inputs nodes fanins rows t leaves size before r' after' →
+pub cone_answer_once : {inputs nodes k : ℕ} {fanins rows order : List ℕ} {t : ℕ} {leaves : List ℕ} {room : ℕ} →
+    ConeAsked inputs nodes k fanins rows order t leaves room → {before after after' : List ℕ} {r r' : ℕ} →
+    ConeAnswered inputs nodes fanins rows t leaves before r after → ConeAnswered inputs nodes fanins rows t leaves before r' after' →
     (r ≡ r') × (after ≡ after')
-cone_answer_once {inputs} {nodes} {k} {fanins} {rows} {t = t} {leaves} {size} asked {r = r} {r'} p q =
+cone_answer_once {inputs} {nodes} {k} {fanins} {rows} {t = t} {leaves} asked {r = r} {r'} p q =
     let ranked = drawn_ranked asked.drawing.drawn asked.drawing.ordered in (
-      cone_table_only (net_in inputs nodes fanins) (tables_in rows) ranked k t (take size leaves) asked.cut r r' p.table_is q.table_is,
+      cone_table_only (net_in inputs nodes fanins) (tables_in rows) ranked k t leaves asked.cut r r' p.table_is q.table_is,
       p.values ∙ sym q.values,
     )
 

@@ -5,13 +5,12 @@ use native.Mathlib.Numerals.{add-one}
 use native.Mathlib.Omega.{arith}
 use mathlib.Core.Path.{◌≡◌, refl, ap, sym, subst, ◌∙◌}
 use mathlib.Core.List.{List, map, Memᴰ}
-use lib.ListN.{length, get_or, take}
+use lib.ListN.{length, get_or}
 use lib.Pow.{pow_mono}
-use lib.Seq.{get_or-take, length-take-le}
 use Rattle.storage.specs.Entries.{cleared, Beyond}
 use Rattle.storage.specs.Lists.{size_at, entry_at, Place}
 use Rattle.storage.specs.Drawings.{net_in, tables_in}
-use Rattle.storage.proofs.Entries.{member_of_part, one_place}
+use Rattle.storage.proofs.Entries.{member_at, one_place}
 use Rattle.storage.proofs.Clears.{cleared_low, cleared_beyond, cleared_used, drop_same, beyond_same, beyond_then}
 use Rattle.storage.proofs.Drawings.{fanins_in, gate_below}
 use Rattle.storage.proofs.InLists.{list_member}
@@ -30,14 +29,13 @@ use Rattle.covering.proofs.Sweeps.{value_of_leaf, digit_of_value}
 use Rattle.covering.proofs.Orders.{order_gate, gate_place, order_once, fanin_before, walked_place}
 
 -- What the loop over the rows keeps: the table so far is that of any table that is the cone's, and the values are bits outside the leaves.
-pub record RowsMade (inputs nodes : ℕ) (fanins rows : List ℕ) (t : ℕ) (leaves : List ℕ) (size : ℕ) (before : List ℕ) (row table : ℕ) (after : List ℕ) :
-    Type 0 where
-  pub free : (v : ℕ) → v < nodes → (Memᴰ v (take size leaves) → ⊥) → get_or after v 0 < 2
+pub record RowsMade (inputs nodes : ℕ) (fanins rows : List ℕ) (t : ℕ) (leaves before : List ℕ) (row table : ℕ) (after : List ℕ) : Type 0 where
+  pub free : (v : ℕ) → v < nodes → (Memᴰ v leaves → ⊥) → get_or after v 0 < 2
   pub rest : Beyond nodes before after
-  pub made : (whole : ℕ) → ConeTable (net_in inputs nodes fanins) (tables_in rows) (take size leaves) t whole → table ≡ table_of row (result_at whole)
+  pub made : (whole : ℕ) → ConeTable (net_in inputs nodes fanins) (tables_in rows) leaves t whole → table ≡ table_of row (result_at whole)
 
-module _ {inputs nodes k : ℕ} {fanins rows order : List ℕ} {t : ℕ} {leaves : List ℕ} {size room : ℕ}
-    (asked : ConeAsked inputs nodes k fanins rows order t leaves size room) where
+module _ {inputs nodes k : ℕ} {fanins rows order : List ℕ} {t : ℕ} {leaves : List ℕ} {room : ℕ}
+    (asked : ConeAsked inputs nodes k fanins rows order t leaves room) where
   ranked : Ranked (net_in inputs nodes fanins)
   ranked = drawn_ranked asked.drawing.drawn asked.drawing.ordered
 
@@ -46,25 +44,20 @@ module _ {inputs nodes k : ℕ} {fanins rows order : List ℕ} {t : ℕ} {leaves
 
   -- The steps have room
 
-  leaves_size : length (take size leaves) ≡ size
-  leaves_size = length-take-le size leaves asked.leaves_long
-
-  leaf_node : {v : ℕ} → Memᴰ v (take size leaves) → v < nodes
+  leaf_node : {v : ℕ} → Memᴰ v leaves → v < nodes
   unfolding net_in
   leaf_node {v} m = met_node asked.drawing.drawn.bounded asked.gate.below (asked.cut.met v m)
 
-  pub leaves_fit : LeavesFit leaves size room
+  pub leaves_fit : LeavesFit leaves room
   leaves_fit =
       record {
-        inside = asked.leaves_long;
-        few = omega (arith, asked.cut.few, asked.drawing.k_small, leaves_size);
-        nodes = λ i h. omega (arith, leaf_node (member_of_part size leaves i h (omega (arith, asked.leaves_long))), asked.values_long);
-        once = λ i j less h e. let same = one_place (rising_no_repeats asked.cut.rising) i j (omega (arith, leaves_size)) (omega (arith, leaves_size))
-            (get_or-take size leaves i 0 (omega arith) ∙ e ∙ sym (get_or-take size leaves j 0 h)) in omega arith;
+        few = omega (arith, asked.cut.few, asked.drawing.k_small);
+        nodes = λ i h. omega (arith, leaf_node (member_at leaves i h), asked.values_long);
+        once = λ i j less h e. let same = one_place (rising_no_repeats asked.cut.rising) i j (omega arith) h e in omega arith;
       }
 
-  pub rows_few : {row all : ℕ} → row < all → all ≡ 2 ^ size → row < 64
-  rows_few h e = omega (arith, pow_mono {i = size} {j = 6} leaves_fit.few)
+  pub rows_few : {row all : ℕ} → row < all → all ≡ 2 ^ length leaves → row < 64
+  rows_few h e = omega (arith, pow_mono {i = length leaves} {j = 6} leaves_fit.few)
 
   pub gate_stands : Place t order
   gate_stands = let p = gate_place (nodes - inputs) order order_long asked.drawing.ordered asked.gate in
@@ -118,16 +111,16 @@ module _ {inputs nodes k : ℕ} {fanins rows order : List ℕ} {t : ℕ} {leaves
 
   -- One row
 
-  module _ (place row : ℕ) (first : FirstPlace order t place) (below : row < 2 ^ size) (before mid after : List ℕ)
-      (free : (v : ℕ) → v < nodes → (Memᴰ v (take size leaves) → ⊥) → get_or before v 0 < 2)
-      (set : LeavesSet leaves size row before mid) (swept : Swept fanins rows order (place + 1) mid after) where
-    no_leaf : {v : ℕ} → (Memᴰ v (take size leaves) → ⊥) → (i : ℕ) → i < size → get_or leaves i 0 ≡ v → ⊥
-    no_leaf out i h e = out (subst (λ (w : ℕ). Memᴰ w (take size leaves)) e (member_of_part size leaves i h (omega (arith, asked.leaves_long))))
+  module _ (place row : ℕ) (first : FirstPlace order t place) (below : row < 2 ^ length leaves) (before mid after : List ℕ)
+      (free : (v : ℕ) → v < nodes → (Memᴰ v leaves → ⊥) → get_or before v 0 < 2)
+      (set : LeavesSet leaves (length leaves) row before mid) (swept : Swept fanins rows order (place + 1) mid after) where
+    no_leaf : {v : ℕ} → (Memᴰ v leaves → ⊥) → (i : ℕ) → i < length leaves → get_or leaves i 0 ≡ v → ⊥
+    no_leaf out i h e = out (subst (λ (w : ℕ). Memᴰ w leaves) e (member_at leaves i h))
 
-    free_mid : (v : ℕ) → v < nodes → (Memᴰ v (take size leaves) → ⊥) → get_or mid v 0 < 2
+    free_mid : (v : ℕ) → v < nodes → (Memᴰ v leaves → ⊥) → get_or mid v 0 < 2
     free_mid v low out = omega (arith, set.others v (no_leaf out), free v low out)
 
-    free_after : (v : ℕ) → v < nodes → (Memᴰ v (take size leaves) → ⊥) → get_or after v 0 < 2
+    free_after : (v : ℕ) → v < nodes → (Memᴰ v leaves → ⊥) → get_or after v 0 < 2
     free_after v low out = swept.gates v (free_mid v low out)
 
     far_after : (v : ℕ) → nodes ≤ v → get_or after v 0 ≡ get_or before v 0
@@ -144,7 +137,7 @@ module _ {inputs nodes k : ℕ} {fanins rows order : List ℕ} {t : ℕ} {leaves
         let size : length after ≡ length before = swept.long ∙ set.long in
         record { size = size; beyond = drop_same nodes after before size far_after }
 
-    obeys : ObeysCone (net_in inputs nodes fanins) (tables_in rows) (take size leaves) t (value_in after)
+    obeys : ObeysCone (net_in inputs nodes fanins) (tables_in rows) leaves t (value_in after)
     unfolding result_in
     obeys g cone =
         let low = gate_below inputs nodes fanins cone.gate in
@@ -154,30 +147,29 @@ module _ {inputs nodes k : ℕ} {fanins rows order : List ℕ} {t : ℕ} {leaves
         let result = swept.results j (omega arith) (rw e (free_mid g low out)) in
         rw (fanins_in inputs nodes fanins g low) (rw e at result)
 
-    has_bits : map (value_in after) (take size leaves) ≡ bits_of (length (take size leaves)) row
-    has_bits = bits_at_nodes (value_in after) (take size leaves) row at
+    has_bits : map (value_in after) leaves ≡ bits_of (length leaves) row
+    has_bits = bits_at_nodes (value_in after) leaves row at
       where
-        at : (i : ℕ) → i < length (take size leaves) → value_in after (get_or (take size leaves) i 0) ≡ result_at row i
+        at : (i : ℕ) → i < length leaves → value_in after (get_or leaves i 0) ≡ result_at row i
         at i h =
-            let low : i < size = omega (arith, leaves_size) in
-            let set_so = set.bits i low in
-            rw (get_or-take size leaves i 0 low) (value_of_leaf after (get_or leaves i 0) (swept.leaves (get_or leaves i 0) (omega arith) ∙ set_so))
+            let set_so = set.bits i h in
+            value_of_leaf after (get_or leaves i 0) (swept.leaves (get_or leaves i 0) (omega arith) ∙ set_so)
 
-    row_result : (whole : ℕ) → ConeTable (net_in inputs nodes fanins) (tables_in rows) (take size leaves) t whole →
+    row_result : (whole : ℕ) → ConeTable (net_in inputs nodes fanins) (tables_in rows) leaves t whole →
         get_or after t 0 % 2 ≡ bit (result_at whole row)
     row_result whole is =
         digit_of_value after t
-        ∙ ap bit (is.value (value_in after) obeys ∙ ap (result_at whole) (ap row_of has_bits ∙ row_of_bits (length (take size leaves)) row (rw leaves_size below)))
+        ∙ ap bit (is.value (value_in after) obeys ∙ ap (result_at whole) (ap row_of has_bits ∙ row_of_bits (length leaves) row below))
 
   -- All rows
 
-  whole_table : ConeTable (net_in inputs nodes fanins) (tables_in rows) (take size leaves) t
-      (cone_table (net_in inputs nodes fanins) (tables_in rows) ranked (take size leaves) t)
+  whole_table : ConeTable (net_in inputs nodes fanins) (tables_in rows) leaves t
+      (cone_table (net_in inputs nodes fanins) (tables_in rows) ranked leaves t)
   whole_table =
-      cone_table_lem (net_in inputs nodes fanins) (tables_in rows) ranked k t (take size leaves) asked.cut asked.drawing.drawn.bounded.nodes asked.gate
+      cone_table_lem (net_in inputs nodes fanins) (tables_in rows) ranked k t leaves asked.cut asked.drawing.drawn.bounded.nodes asked.gate
 
   pub rows_none : (before : List ℕ) {values : List ℕ} → nodes ≤ length before → values ≡ cleared nodes before →
-      RowsMade inputs nodes fanins rows t leaves size values 0 0 values
+      RowsMade inputs nodes fanins rows t leaves values 0 0 values
   unfolding table_of
   rows_none before long e =
       record {
@@ -186,13 +178,13 @@ module _ {inputs nodes k : ℕ} {fanins rows order : List ℕ} {t : ℕ} {leaves
         made = λ whole is. refl;
       }
 
-  module _ {values₀ : List ℕ} {row table : ℕ} {values : List ℕ} (so_far : RowsMade inputs nodes fanins rows t leaves size values₀ row table values) where
+  module _ {values₀ : List ℕ} {row table : ℕ} {values : List ℕ} (so_far : RowsMade inputs nodes fanins rows t leaves values₀ row table values) where
     pub table_fits_rows : table < 2 ^ row
     table_fits_rows = rw (so_far.made _ whole_table) (table_below row _)
 
-    pub rows_more : (place : ℕ) → FirstPlace order t place → row < 2 ^ size → {mid after : List ℕ} {next : ℕ} →
-        LeavesSet leaves size row values mid → Swept fanins rows order (place + 1) mid after → next ≡ get_or after t 0 % 2 * 2 ^ row + table →
-        RowsMade inputs nodes fanins rows t leaves size values₀ (row + 1) next after
+    pub rows_more : (place : ℕ) → FirstPlace order t place → row < 2 ^ length leaves → {mid after : List ℕ} {next : ℕ} →
+        LeavesSet leaves (length leaves) row values mid → Swept fanins rows order (place + 1) mid after → next ≡ get_or after t 0 % 2 * 2 ^ row + table →
+        RowsMade inputs nodes fanins rows t leaves values₀ (row + 1) next after
     unfolding table_of
     rows_more place first below {mid} {after} {next} set swept e =
         record {
@@ -203,21 +195,18 @@ module _ {inputs nodes k : ℕ} {fanins rows order : List ℕ} {t : ℕ} {leaves
         }
 
     -- with all rows the table is the cone's
-    pub rows_all : row ≡ 2 ^ size → (before : List ℕ) {after : List ℕ} → nodes ≤ length before → values₀ ≡ cleared nodes before → after ≡ cleared nodes values →
-        ConeAnswered inputs nodes fanins rows t leaves size before table after
+    pub rows_all : row ≡ 2 ^ length leaves → (before : List ℕ) {after : List ℕ} → nodes ≤ length before → values₀ ≡ cleared nodes before → after ≡ cleared nodes values →
+        ConeAnswered inputs nodes fanins rows t leaves before table after
     rows_all e before {after} long first last =
-        record { table_is = subst (ConeTable (net_in inputs nodes fanins) (tables_in rows) (take size leaves) t) (sym same) whole_table; values = ends }
+        record { table_is = subst (ConeTable (net_in inputs nodes fanins) (tables_in rows) leaves t) (sym same) whole_table; values = ends }
       where
         whole : ℕ
-        whole = cone_table (net_in inputs nodes fanins) (tables_in rows) ranked (take size leaves) t
-
-        size_is : 2 ^ length (take size leaves) ≡ row
-        size_is = ap (2 ^◌) leaves_size ∙ sym e
+        whole = cone_table (net_in inputs nodes fanins) (tables_in rows) ranked leaves t
 
         same : table ≡ whole
         same =
             so_far.made whole whole_table
-            ∙ tables_agree row _ whole (table_below row _) (subst (λ (n : ℕ). whole < 2 ^ n) size_is whole_table.rows) (result_of_table row (result_at whole))
+            ∙ tables_agree row _ whole (table_below row _) (subst (λ (n : ℕ). whole < 2 ^ n) (sym e) whole_table.rows) (result_of_table row (result_at whole))
 
         used : Beyond nodes before values
         used = beyond_then (cleared_beyond nodes before long) (rw first at so_far.rest)

@@ -1,5 +1,5 @@
 -- The cone's function from arrays: what `cone_table` asks and answers; below, what its steps do.
-use Rattle.std.specs.Prelude.{ℕ, ◌+◌, ◌*◌, ◌≤◌, ◌<◌, ◌≡◌, Bool, length, get_or, take, set}
+use Rattle.std.specs.Prelude.{ℕ, ◌+◌, ◌*◌, ◌≤◌, ◌<◌, ◌≡◌, Bool, length, get_or, set}
 use mathlib.Core.List.{List, map, Memᴰ}
 use Rattle.storage.specs.Entries.{cleared}
 use Rattle.storage.specs.Lists.{size_at, list_at}
@@ -9,20 +9,18 @@ use Rattle.theory.specs.paper.Walk.{Cut}
 use Rattle.theory.specs.paper.Values.{bit, row_of, result_at}
 use Rattle.theory.specs.paper.Lookup.{ConeTable}
 
--- The arrays hold a drawing with its tables and an order of its gates; t is a gate and the first `size` leaves are a cut of it; and there is
--- a word a node for the values.
-pub record ConeAsked (inputs nodes k : ℕ) (fanins rows order : List ℕ) (t : ℕ) (leaves : List ℕ) (size room : ℕ) : Type 0 where
+-- The arrays hold a drawing with its tables and an order of its gates; t is a gate and the leaves are a cut of it; and there is a
+-- word a node for the values.
+pub record ConeAsked (inputs nodes k : ℕ) (fanins rows order : List ℕ) (t : ℕ) (leaves : List ℕ) (room : ℕ) : Type 0 where
   pub drawing : Arranged inputs nodes k fanins order
   pub rows_long : nodes ≤ length rows
   pub gate : Gate (net_in inputs nodes fanins) t
-  pub leaves_long : size ≤ length leaves
-  pub cut : Cut (net_in inputs nodes fanins) k t (take size leaves)
+  pub cut : Cut (net_in inputs nodes fanins) k t leaves
   pub values_long : nodes ≤ room
 
 -- The answer is the cone's table, and the values' first `nodes` words are left at 0.
-pub record ConeAnswered (inputs nodes : ℕ) (fanins rows : List ℕ) (t : ℕ) (leaves : List ℕ) (size : ℕ) (before : List ℕ) (table : ℕ) (after : List ℕ) :
-    Type 0 where
-  pub table_is : ConeTable (net_in inputs nodes fanins) (tables_in rows) (take size leaves) t table
+pub record ConeAnswered (inputs nodes : ℕ) (fanins rows : List ℕ) (t : ℕ) (leaves before : List ℕ) (table : ℕ) (after : List ℕ) : Type 0 where
+  pub table_is : ConeTable (net_in inputs nodes fanins) (tables_in rows) leaves t table
   pub values : after ≡ cleared nodes before
 
 -- The steps
@@ -67,17 +65,16 @@ pub record Swept (fanins rows order : List ℕ) (upto : ℕ) (before after : Lis
   pub results : (i : ℕ) → i < upto → get_or before (get_or order i 0) 0 < 2 →
       value_in after (get_or order i 0) ≡ result_in fanins rows after (get_or order i 0)
 
-pub record LeavesFit (leaves : List ℕ) (size room : ℕ) : Type 0 where
-  pub inside : size ≤ length leaves
-  pub few : size ≤ 6
-  pub nodes : (i : ℕ) → i < size → get_or leaves i 0 < room
-  pub once : (i j : ℕ) → i < j → j < size → get_or leaves i 0 ≡ get_or leaves j 0 → ⊥
+pub record LeavesFit (leaves : List ℕ) (room : ℕ) : Type 0 where
+  pub few : length leaves ≤ 6
+  pub nodes : (i : ℕ) → i < length leaves → get_or leaves i 0 < room
+  pub once : (i j : ℕ) → i < j → j < length leaves → get_or leaves i 0 ≡ get_or leaves j 0 → ⊥
 
--- leaf i has bit i of the row
-pub record LeavesSet (leaves : List ℕ) (size row : ℕ) (before after : List ℕ) : Type 0 where
+-- of the first `many` leaves, leaf i has bit i of the row
+pub record LeavesSet (leaves : List ℕ) (many row : ℕ) (before after : List ℕ) : Type 0 where
   pub long : length after ≡ length before
-  pub bits : (i : ℕ) → i < size → get_or after (get_or leaves i 0) 0 ≡ 2 + bit (result_at row i)
-  pub others : (v : ℕ) → ((i : ℕ) → i < size → get_or leaves i 0 ≡ v → ⊥) → get_or after v 0 ≡ get_or before v 0
+  pub bits : (i : ℕ) → i < many → get_or after (get_or leaves i 0) 0 ≡ 2 + bit (result_at row i)
+  pub others : (v : ℕ) → ((i : ℕ) → i < many → get_or leaves i 0 ≡ v → ⊥) → get_or after v 0 ≡ get_or before v 0
 
 -- the first place at which v stands
 pub record FirstPlace (order : List ℕ) (v place : ℕ) : Type 0 where

@@ -6,7 +6,7 @@ ghost use Rattle.theory.specs.paper.Values.{bit, row_of, result_at};
 ghost use Rattle.covering.specs.Cones.{ConeAsked, ConeAnswered, value_in, RowFits, GateFits, GateSettled, SweepFits, Swept, LeavesFit, LeavesSet, FirstPlace};
 
 use storage::lists::{PLACES, node_at, size_at};
-use storage::{CutSize, Net, Node, fill};
+use storage::{Net, Node, fill};
 
 // The result of a table at a row.
 fn result_at(table: u64, row: u64) -> u64
@@ -26,11 +26,10 @@ fn with_row(table: u64, row: u64, res: u64) -> u64
     (res << row) + table
 }
 
-fn rows_of(size: CutSize) -> u64
-    requires { size.leaves ≤ 6 }
-    ensures { result ≡ 2 ^ size.leaves }
+fn rows_of(leaves: usize) -> u64
+    requires { leaves ≤ 6 }
+    ensures { result ≡ 2 ^ leaves }
 {
-    let leaves = size.leaves;
     1u64 << leaves
 }
 
@@ -47,13 +46,12 @@ fn row_of(ids: &[u16], at: usize, many: usize, values: &[u64]) -> u64
 }
 
 // The leaves get the bits of the row.
-fn set_leaves(leaves: &[u16], size: CutSize, row: u64, values: &mut [u64])
-    requires { LeavesFit leaves.now size.leaves (length values.old) }
-    ensures { LeavesSet leaves.now size.leaves row values.old values.new }
+fn set_leaves(leaves: &[u16], row: u64, values: &mut [u64])
+    requires { LeavesFit leaves.now (length values.old) }
+    ensures { LeavesSet leaves.now (length leaves.now) row values.old values.new }
 {
-    let many = size.leaves as usize;
-    for i in 0..many {
-        values[leaves[i] as usize] = 2 + result_at(row, i as u64);
+    for (i, leaf) in leaves.iter().enumerate() {
+        values[*leaf as usize] = 2 + result_at(row, i as u64);
     }
 }
 
@@ -91,28 +89,21 @@ fn sweep(fanins: &[u16], rows: &[u64], order: &[u16], upto: usize, values: &mut 
     }
 }
 
-// The table of the cone of `gate` over the first `size` leaves, row by row; gates that come after `gate` in the order are not computed.
+// The table of the cone of `gate` over the leaves, row by row; gates that come after `gate` in the order are not computed.
 // Whatever the values held, their first `nodes` words are left at 0. (A word a node is room for all rows at once.)
-pub fn cone_table(
-    net: Net,
-    rows: &[u64],
-    gate: Node,
-    leaves: &[u16],
-    size: CutSize,
-    values: &mut [u64],
-) -> u64
+pub fn cone_table(net: Net, rows: &[u64], gate: Node, leaves: &[u16], values: &mut [u64]) -> u64
     requires { ConeAsked net.numbers.inputs net.numbers.nodes net.numbers.k.leaves net.fanins.now rows.now net.order.now gate.id
-        leaves.now size.leaves (length values.old) }
+        leaves.now (length values.old) }
     ensures { ConeAnswered net.entry.numbers.inputs net.entry.numbers.nodes net.entry.fanins.now rows.now gate.id
-        leaves.now size.leaves values.old result values.new }
+        leaves.now values.old result values.new }
 {
     fill(values, net.numbers.nodes, 0);
     let upto = place_of(net.order, gate) + 1;
-    let all = rows_of(size);
+    let all = rows_of(leaves.len());
     let at = gate.id as usize;
     let mut table: u64 = 0;
     for row in 0..all {
-        set_leaves(leaves, size, row, values);
+        set_leaves(leaves, row, values);
         sweep(net.fanins, rows, net.order, upto, values);
         table = with_row(table, row, values[at] % 2);
     }

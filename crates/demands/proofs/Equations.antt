@@ -1,6 +1,7 @@
 -- The demands on typed equations, from the promises of `compile`, `map` and `inspect`. Each refusal is a reply that the promise of `compile` allows, and it allows
 -- one. A compiled table's bytes read back (tabling's round trip), so demands 2 and 3 speak of them; their LUTs have the gates' values at the outputs, and the
 -- gates the equations'.
+use Rattle.std.specs.Prelude.{Result, Ok, Err}
 use Prim.Native.Nat.{ℕ, ◌≤◌, ◌<◌}
 use native.Mathlib.Omega.{arith}
 use mathlib.Core.Path.{◌≡◌, refl, sym, ap, ◌∙◌, subst}
@@ -32,13 +33,13 @@ use Rattle.grammar.specs.paper.Circles.{Circular}
 use Rattle.grammar.proofs.OneSystem.{well_formed_one}
 use Rattle.grammar.proofs.Solutions.{table_faithful}
 use Rattle.grammar.proofs.Circling.{no_loop_no_circle, circle_is_loop}
-use Rattle.compiling.specs.declared.Reply.{Reply}
-use Rattle.compiling.specs.declared.Reply.TheVariants.{Text, Name, Numbers, LoopAt, Room, Compiled}
+use Rattle.compiling.specs.declared.CompileError.{CompileError}
+use Rattle.compiling.specs.declared.CompileError.TheVariants.{Text, Name, Numbers, LoopAt, Room}
 use Rattle.compiling.specs.paper.Compiles.{Compiles, Typed, Drawable, table_room, said, number, place}
 use Rattle.compiling.proofs.Drawables.{table_within, table_taken}
 use Rattle.compiling.proofs.One.{compiles_one}
 use Rattle.keeping.specs.paper.Right.{Right}
-use Rattle.mapping.specs.declared.Reply as mapper
+use Rattle.mapping.specs.declared.MapError.{MapError}
 use Rattle.mapping.specs.paper.Maps as mapping
 use Rattle.mapping.specs.paper.Maps.{Maps}
 use Rattle.inspecting.specs.paper.Inspecting.{sheet_in}
@@ -68,26 +69,26 @@ no_text_typed {sys = sys} (inr none) typed = absurd (none sys typed.well_formed)
 module _ (s : List ℕ) (k : ℕ) (before : List ℕ) where
   -- a refusal is a reply that the promise allows, and its number is not 0
   record Refusing (x : ℕ × ℕ) : Type 0 where
-    reply : Reply
+    reply : Result ℕ CompileError
     compiles : Compiles s k before reply before
     says : said reply ≡ x
     some : number reply ≡ 0 → ⊥
 
   refusing : {x : ℕ × ℕ} → CompilerRefuses s k before x → Refusing x
   refusing (CompilerRefuses.long over) =
-      record { reply = Text most_text; compiles = Compiles.long over refl refl; says = refl; some = λ n. omega (arith, n) }
+      record { reply = Err (Text most_text); compiles = Compiles.long over refl refl; says = refl; some = λ n. omega (arith, n) }
   refusing (CompilerRefuses.ungrammatical {p = p} short none longest) =
-      record { reply = Text p; compiles = Compiles.ungrammatical short none longest refl refl; says = refl; some = λ n. omega (arith, n) }
+      record { reply = Err (Text p); compiles = Compiles.ungrammatical short none longest refl refl; says = refl; some = λ n. omega (arith, n) }
   refusing (CompilerRefuses.misnamed {p = p} typed first) =
-      record { reply = Name p; compiles = Compiles.misnamed typed first refl refl; says = refl; some = λ n. omega (arith, n) }
+      record { reply = Err (Name p); compiles = Compiles.misnamed typed first refl refl; says = refl; some = λ n. omega (arith, n) }
   refusing (CompilerRefuses.outside typed named out) =
-      record { reply = Numbers; compiles = Compiles.outside typed named out refl refl; says = refl; some = λ n. omega (arith, n) }
+      record { reply = Err Numbers; compiles = Compiles.outside typed named out refl refl; says = refl; some = λ n. omega (arith, n) }
   refusing (CompilerRefuses.loop {g = g} d lowest) =
-      record { reply = LoopAt (record { id = g }); compiles = Compiles.loop d lowest refl refl; says = refl; some = λ n. omega (arith, n) }
+      record { reply = Err (LoopAt (record { id = g })); compiles = Compiles.loop d lowest refl refl; says = refl; some = λ n. omega (arith, n) }
   refusing (CompilerRefuses.room d none short) =
-      record { reply = Room; compiles = Compiles.room d (free_of_loops d none) short refl refl; says = refl; some = λ n. omega (arith, n) }
+      record { reply = Err Room; compiles = Compiles.room d (free_of_loops d none) short refl refl; says = refl; some = λ n. omega (arith, n) }
 
-  module _ (r : Reply) (after : List ℕ) where
+  module _ (r : Result ℕ CompileError) (after : List ℕ) where
     said_refused : Compiles s k before r after → (x : ℕ × ℕ) → said r ≡ x → (x.0 ≡ 0 → ⊥) → CompilerRefuses s k before x
     said_refused (Compiles.long over p a) x is some = subst (CompilerRefuses s k before) (sym (ap said p) ∙ is) (CompilerRefuses.long over)
     said_refused (Compiles.ungrammatical short none longest p a) x is some =
@@ -128,7 +129,7 @@ module _ (s : List ℕ) (k : ℕ) (before : List ℕ) where
       drawable : Drawable s k sys
       free : NoLoop (net_of (table_for s k sys))
       enough : table_room ≤ length before
-      replied : r ≡ Compiled (length (encode (table_for s k sys)))
+      replied : r ≡ Ok (length (encode (table_for s k sys)))
       stored : after ≡ encode (table_for s k sys) ++ drop (length (encode (table_for s k sys))) before
 
     is_compiled : Compiles s k before r after → number r ≡ 0 → IsCompiled
@@ -244,7 +245,7 @@ module _ {s : List ℕ} {k : ℕ} {sys : System} (d : Drawable s k sys) (free : 
   reads : table_of bytes ≡ table_for s k sys
   reads = ap table_of same ∙ table_back (table_for s k sys) (table_within d.typed d.numbers)
 
-  mapped : (before : List ℕ) (q : mapper.Reply) (after : List ℕ) → Maps bytes before q after → sheet_room ≤ length before →
+  mapped : (before : List ℕ) (q : Result ℕ MapError) (after : List ℕ) → Maps bytes before q after → sheet_room ≤ length before →
       (mapping.number q ≡ 0) × Serves s k sys (sheet_in bytes (take (mapping.place q) after))
   mapped before q after maps enough =
       let zero = (demand_1 bytes before q after maps).mapped.1 (taken, enough) in

@@ -1,5 +1,4 @@
 -- Demand 1 and demand 2 for the mapper, and that its own sheet keeps the rules.
-use Rattle.std.specs.Prelude.{Ok}
 use Prim.Native.Nat.{ℕ, ◌≤◌}
 use native.Mathlib.Omega.{arith}
 use mathlib.Core.Path.{◌≡◌, refl, sym, ap, ◌∙◌, subst}
@@ -12,7 +11,7 @@ use Rattle.theory.specs.paper.Walk.{Loop, LowestLoop, NoLoop}
 use Rattle.theory.specs.paper.Cover.{Label}
 use Rattle.drawing.specs.declared.Refusal.{Refusal}
 use Rattle.drawing.specs.paper.Fields.{Verdict}
-use Rattle.std.specs.Prelude.{Ok, Err}
+use Rattle.std.specs.Prelude.{Result, Ok, Err}
 use Rattle.drawing.specs.paper.Fields.{head_k, head_i}
 use Rattle.drawing.specs.paper.Table.{net_of, tables_of}
 use Rattle.drawing.specs.paper.Reading.{found, table_of}
@@ -33,8 +32,8 @@ use Rattle.keeping.proofs.Mappers.{mappers_sheet_keeps}
 use Rattle.keeping.proofs.Kept.{kept_is_right}
 use Rattle.keeping.proofs.Shaped.{mappers_sheet_shaped}
 use Rattle.keeping.proofs.One.{mappers_sheet_is_one}
-use Rattle.mapping.specs.declared.Reply.{Reply}
-use Rattle.mapping.specs.declared.Reply.TheVariants.{Mapped, Refused, LoopAt, Room}
+use Rattle.mapping.specs.declared.MapError.{MapError}
+use Rattle.mapping.specs.declared.MapError.TheVariants.{Refused, LoopAt, Room}
 use Rattle.mapping.specs.paper.Maps.{Maps, MapsTo, said, number, place}
 use Rattle.mapping.proofs.Mapped.{OneReply, maps_one}
 use Rattle.inspecting.specs.paper.Inspecting.{KeepsAll, due_in, sheet_in}
@@ -61,13 +60,13 @@ free_none free (g, (gate, around)) = free g gate around
 pub front : (bytes before : List ℕ) → take (length bytes) (bytes ++ drop (length bytes) before) ≡ bytes
 front bytes before = take_at bytes (drop (length bytes) before) (length bytes) refl
 
-pub bytes_front : (before after : List ℕ) (r : Reply) (sheet : Sheet) → r ≡ Mapped (length (encode narrow sheet)) →
+pub bytes_front : (before after : List ℕ) (r : Result ℕ MapError) (sheet : Sheet) → r ≡ Ok (length (encode narrow sheet)) →
     after ≡ encode narrow sheet ++ drop (length (encode narrow sheet)) before → take (place r) after ≡ encode narrow sheet
 bytes_front before after r sheet p a =
     ap (λ (n : ℕ). take n after) (ap place p) ∙ ap (take (length (encode narrow sheet))) a ∙ front (encode narrow sheet) before
 
 -- and behind it the buffer is as before
-bytes_rest : (before after : List ℕ) (r : Reply) (sheet : Sheet) → r ≡ Mapped (length (encode narrow sheet)) →
+bytes_rest : (before after : List ℕ) (r : Result ℕ MapError) (sheet : Sheet) → r ≡ Ok (length (encode narrow sheet)) →
     after ≡ encode narrow sheet ++ drop (length (encode narrow sheet)) before → drop (place r) after ≡ drop (place r) before
 bytes_rest before after r sheet p a =
     let size = length (encode narrow sheet) in
@@ -126,13 +125,13 @@ labels_true s sheet mapper = mapper.labels
 
 -- Two replies
 
-taken_of : {s before : List ℕ} {r : Reply} {after : List ℕ} → Maps s before r after → number r ≡ 0 → IsTaken s × (sheet_room ≤ length before)
+taken_of : {s before : List ℕ} {r : Result ℕ MapError} {after : List ℕ} → Maps s before r after → number r ≡ 0 → IsTaken s × (sheet_room ≤ length before)
 taken_of (Maps.refused {x = x} e p a) n = absurd (omega (arith, ap number p, n, (refusal_number x).0))
 taken_of (Maps.loop e l p a) n = absurd (omega (arith, ap number p, n))
 taken_of (Maps.room t short p a) n = absurd (omega (arith, ap number p, n))
 taken_of (Maps.mapped sheet t long to p a) n = (t, long)
 
-same_reply : (s before : List ℕ) (r q : Reply) (after after' : List ℕ) → Maps s before r after → OneReply s before r q after after' → SameReply s r q after after'
+same_reply : (s before : List ℕ) (r q : Result ℕ MapError) (after after' : List ℕ) → Maps s before r after → OneReply s before r q after after' → SameReply s r q after after'
 same_reply s before r q after after' m (OneReply.same p a) = SameReply.refusal p a
 same_reply s before r q after after' m (OneReply.sheets x y to to' p o a b) =
     let taken = (taken_of m (ap number p)).0 in
@@ -144,23 +143,23 @@ same_reply s before r q after after' m (OneReply.sheets x y to to' p o a b) =
 
 -- a refusal is a reply that the promise allows, and its number is not 0
 record Refusing (s before : List ℕ) (x : ℕ × ℕ) : Type 0 where
-  reply : Reply
+  reply : Result ℕ MapError
   maps : Maps s before reply before
   says : said reply ≡ x
   some : number reply ≡ 0 → ⊥
 
 refusing : {s before : List ℕ} {x : ℕ × ℕ} → MapperRefuses s before x → Refusing s before x
 refusing (MapperRefuses.faulty {x = x} e) =
-    record { reply = Refused x; maps = Maps.refused e refl refl; says = refl; some = λ n. omega (arith, n, (refusal_number x).0) }
+    record { reply = Err (Refused x); maps = Maps.refused e refl refl; says = refl; some = λ n. omega (arith, n, (refusal_number x).0) }
 refusing (MapperRefuses.loop {g = g} e l) =
-    record { reply = LoopAt (record { id = g }); maps = Maps.loop e l refl refl; says = refl; some = λ n. omega (arith, n) }
-refusing (MapperRefuses.room t short) = record { reply = Room; maps = Maps.room t short refl refl; says = refl; some = λ n. omega (arith, n) }
+    record { reply = Err (LoopAt (record { id = g })); maps = Maps.loop e l refl refl; says = refl; some = λ n. omega (arith, n) }
+refusing (MapperRefuses.room t short) = record { reply = Err Room; maps = Maps.room t short refl refl; says = refl; some = λ n. omega (arith, n) }
 
-refused_said : {s before : List ℕ} {r q : Reply} {after after' : List ℕ} → OneReply s before r q after after' → (number q ≡ 0 → ⊥) → r ≡ q
+refused_said : {s before : List ℕ} {r q : Result ℕ MapError} {after after' : List ℕ} → OneReply s before r q after after' → (number q ≡ 0 → ⊥) → r ≡ q
 refused_said (OneReply.same e _) some = e
 refused_said (OneReply.sheets x y _ _ p o _ _) some = absurd (some (ap number o))
 
-said_refused : {s before : List ℕ} {r : Reply} {after : List ℕ} → Maps s before r after → (x : ℕ × ℕ) → said r ≡ x → (x.0 ≡ 0 → ⊥) →
+said_refused : {s before : List ℕ} {r : Result ℕ MapError} {after : List ℕ} → Maps s before r after → (x : ℕ × ℕ) → said r ≡ x → (x.0 ≡ 0 → ⊥) →
     MapperRefuses s before x
 said_refused {s} {before} (Maps.refused e p a) x is some = subst (MapperRefuses s before) (sym (ap said p) ∙ is) (MapperRefuses.faulty e)
 said_refused {s} {before} (Maps.loop e l p a) x is some = subst (MapperRefuses s before) (sym (ap said p) ∙ is) (MapperRefuses.loop e l)
@@ -169,13 +168,13 @@ said_refused (Maps.mapped sheet t long to p a) x is some = absurd (some (sym (ap
 
 -- Loops
 
-looped : {s before : List ℕ} {r : Reply} {after : List ℕ} → Maps s before r after → number r ≡ loop_number → ReadsWhole s × SomeLoop s
+looped : {s before : List ℕ} {r : Result ℕ MapError} {after : List ℕ} → Maps s before r after → number r ≡ loop_number → ReadsWhole s × SomeLoop s
 looped (Maps.refused {x = x} e p a) n = absurd (omega (arith, ap number p, n, (refusal_number x).1))
 looped (Maps.loop e l p a) n = (e, loop_some l)
 looped (Maps.room t short p a) n = absurd (omega (arith, ap number p, n))
 looped (Maps.mapped sheet t long to p a) n = absurd (omega (arith, ap number p, n))
 
-seven : {s before : List ℕ} {r : Reply} {after : List ℕ} → Maps s before r after → ReadsWhole s → SomeLoop s → number r ≡ loop_number
+seven : {s before : List ℕ} {r : Result ℕ MapError} {after : List ℕ} → Maps s before r after → ReadsWhole s → SomeLoop s → number r ≡ loop_number
 seven (Maps.refused e p a) whole some = absurd (sound_not_refused whole e)
 seven (Maps.loop e l p a) whole some = ap number p
 seven (Maps.room t short p a) whole some = absurd (free_none t.no_loop some)
@@ -183,19 +182,19 @@ seven (Maps.mapped sheet t long to p a) whole some = absurd (free_none t.no_loop
 
 -- What the buffer holds
 
-zero_of : {s before : List ℕ} {r : Reply} {after : List ℕ} → Maps s before r after → IsTaken s → sheet_room ≤ length before → number r ≡ 0
+zero_of : {s before : List ℕ} {r : Result ℕ MapError} {after : List ℕ} → Maps s before r after → IsTaken s → sheet_room ≤ length before → number r ≡ 0
 zero_of (Maps.refused e p a) taken long = absurd (sound_not_refused taken.whole e)
 zero_of (Maps.loop e l p a) taken long = absurd (free_none taken.no_loop (loop_some l))
 zero_of (Maps.room t short p a) taken long = absurd (omega (arith, short, long))
 zero_of (Maps.mapped sheet t long to p a) taken _ = ap number p
 
-untouched : {s before : List ℕ} {r : Reply} {after : List ℕ} → Maps s before r after → (number r ≡ 0 → ⊥) → after ≡ before
+untouched : {s before : List ℕ} {r : Result ℕ MapError} {after : List ℕ} → Maps s before r after → (number r ≡ 0 → ⊥) → after ≡ before
 untouched (Maps.refused e p a) some = a
 untouched (Maps.loop e l p a) some = a
 untouched (Maps.room t short p a) some = a
 untouched (Maps.mapped sheet t long to p a) some = absurd (some (ap number p))
 
-rest : (s before : List ℕ) (r : Reply) (after : List ℕ) → Maps s before r after → number r ≡ 0 → drop (place r) after ≡ drop (place r) before
+rest : (s before : List ℕ) (r : Result ℕ MapError) (after : List ℕ) → Maps s before r after → number r ≡ 0 → drop (place r) after ≡ drop (place r) before
 rest s before r after (Maps.refused {x = x} e p a) n = absurd (omega (arith, ap number p, n, (refusal_number x).0))
 rest s before r after (Maps.loop e l p a) n = absurd (omega (arith, ap number p, n))
 rest s before r after (Maps.room t short p a) n = absurd (omega (arith, ap number p, n))
@@ -220,7 +219,7 @@ demand_1 s before r after m =
       rest = rest s before r after m;
     }
 
-written : (s before : List ℕ) (r : Reply) (after : List ℕ) → Maps s before r after → number r ≡ 0 → SheetWritten s after (place r)
+written : (s before : List ℕ) (r : Result ℕ MapError) (after : List ℕ) → Maps s before r after → number r ≡ 0 → SheetWritten s after (place r)
 written s before r after (Maps.refused {x = x} e p a) n = absurd (omega (arith, ap number p, n, (refusal_number x).0))
 written s before r after (Maps.loop e l p a) n = absurd (omega (arith, ap number p, n))
 written s before r after (Maps.room t short p a) n = absurd (omega (arith, ap number p, n))
@@ -239,7 +238,7 @@ written s before r after (Maps.mapped sheet taken long mapper p a) n =
 pub demand_2 : Demand2
 demand_2 s before r after m n = written s before r after m n
 
-kept : (s before : List ℕ) (r : Reply) (after : List ℕ) → Maps s before r after → number r ≡ 0 → KeepsAll s (take (place r) after)
+kept : (s before : List ℕ) (r : Result ℕ MapError) (after : List ℕ) → Maps s before r after → number r ≡ 0 → KeepsAll s (take (place r) after)
 kept s before r after (Maps.refused {x = x} e p a) n = absurd (omega (arith, ap number p, n, (refusal_number x).0))
 kept s before r after (Maps.loop e l p a) n = absurd (omega (arith, ap number p, n))
 kept s before r after (Maps.room t short p a) n = absurd (omega (arith, ap number p, n))

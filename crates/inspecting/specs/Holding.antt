@@ -1,5 +1,6 @@
 -- A sheet of sound shape in arrays, and what passes two to four say of it.
 use Rattle.std.specs.Prelude.{ℕ, ◌≤◌, ◌<◌, ◌≡◌, length, get_or, take, Ok, Err}
+use native.Mathlib.Omega.{arith}
 use mathlib.Core.List.{List, [], ◌∷◌, ◌++◌, map, flat_map, Memᴰ}
 use Rattle.theory.specs.paper.Net.{Net}
 use Rattle.storage.specs.declared.Numbers.{Numbers}
@@ -13,7 +14,7 @@ use Rattle.sheet.specs.paper.Shape.{Due, reading}
 use Rattle.sheet.specs.Shape.{due_from}
 use Rattle.sheet.specs.paper.Rules.{Rule, Found, FirstBroken, Keeps, labels_of, lut_rules, gates, rules_of}
 use Rattle.sheet.specs.Arrays.{HoldsLuts}
-use Rattle.shaping.specs.declared.Terms.{Terms}
+use Rattle.shaping.specs.declared.terms.Terms.{Terms}
 use Rattle.inspecting.specs.declared.Inspection.{Inspection}
 use Rattle.inspecting.specs.declared.Inspection.TheVariants.{Shape}
 use Rattle.inspecting.specs.paper.Inspecting.{reply_of}
@@ -23,8 +24,15 @@ abbrev pub due_for : (k inputs nodes : ℕ) → Due
 due_for k inputs nodes = due_from narrow most_depth k inputs nodes
 
 -- what a sheet for a table with these numbers is read by; `due_of` of it is `due_for`
-abbrev pub terms_for : Numbers → Terms
-terms_for n = record { form = narrow; most = record { depth = most_depth }; numbers = n }
+abbrev pub terms_for : (n : Numbers) → n.inputs ≤ n.nodes → Terms
+terms_for n inputs_in =
+    record {
+      form = narrow;
+      most = record { depth = most_depth };
+      numbers = n;
+      narrow = record { some = omega arith; few = omega arith };
+      inputs_in = inputs_in;
+    }
 
 -- A table taken: a drawing with its order, its tables and its outputs in arrays.
 pub record TableLaid (k inputs nodes number : ℕ) (fanins rows outputs order : List ℕ) : Type 0 where

@@ -86,7 +86,8 @@ fn judge_last(
 
 // What a sheet for a table with these numbers is read by.
 fn terms_for(numbers: Numbers) -> Terms
-    ensures { result ≡ terms_for numbers }
+    requires { numbers.inputs ≤ numbers.nodes }
+    ensures { (inputs_in : numbers.inputs ≤ numbers.nodes) → result ≡ terms_for numbers inputs_in }
 {
     Terms {
         form: narrow_form(),

@@ -6,7 +6,7 @@ use native.Mathlib.Omega.{arith}
 use mathlib.Core.Path.{◌≡◌, sym, ap, subst, ◌∙◌}
 use mathlib.Core.Bool.{Bool, true, false}
 use mathlib.Core.List.{List, [], ◌∷◌, Memᴰ}
-use lib.ListN.{length, get_or, length-drop}
+use lib.ListN.{length, get_or}
 use Rattle.storage.specs.declared.Node.{Node}
 use Rattle.storage.specs.Entries.{Beyond}
 use Rattle.storage.specs.Marks.{Tells}
@@ -51,7 +51,6 @@ module _ {k inputs nodes : ℕ} {fanins order : List ℕ} {l : Lined} {node : No
         walk = record {
           drawing = all.drawing;
           node = here;
-          leaves_long = omega (arith, cuts_here, length-drop (7 * node.id + 1) l.cuts);
           roles_long = all.roles_long;
         };
         long = cuts_here;

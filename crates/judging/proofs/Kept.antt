@@ -39,12 +39,11 @@ module _ {inputs nodes k : ℕ} {fanins order : List ℕ} {t : ℕ} {labels : Li
   abbrev here : AtGate inputs nodes k fanins order t labels p roles
   here = asked.at_gate
 
-  pub walk_asked : (leaves : List ℕ) → WalkRoom inputs nodes k fanins order t leaves 0 roles
-  walk_asked leaves =
+  pub walk_asked : WalkRoom inputs nodes k fanins order t roles
+  walk_asked =
       record {
         drawing = here.drawing;
         node = gate_below inputs nodes fanins here.gate;
-        leaves_long = omega arith;
         roles_long = here.roles_long;
       }
 

@@ -1,5 +1,5 @@
 -- Rules 25, 26 and 27 at the gates: what each test asks and tells, and pass two.
-use Rattle.std.specs.Prelude.{Result, ℕ, suc, ◌+◌, ◌*◌, ◌≤◌, ◌<◌, ◌≡◌, Bool, ◌⊎◌, length, drop, Ok, Err}
+use Rattle.std.specs.Prelude.{Result, ℕ, suc, ◌+◌, ◌*◌, ◌≤◌, ◌<◌, ◌≡◌, Bool, ◌⊎◌, length, Ok, Err}
 use mathlib.Core.List.{List, map, flat_map, Memᴰ}
 use Rattle.theory.specs.paper.Net.{Net, Gate}
 use Rattle.theory.specs.paper.Lists.{NoRepeats, greatest}
@@ -31,7 +31,7 @@ line_paths_in form s at = paths_at s (paths_place form s at + 1) form.width (num
 -- Rule 25: the cut
 
 pub record CutAsked (inputs nodes k : ℕ) (fanins order : List ℕ) (t : ℕ) (cuts roles : List ℕ) : Type 0 where
-  pub walk : WalkRoom inputs nodes k fanins order t (drop (7 * t + 1) cuts) (size_at cuts t) roles
+  pub walk : WalkRoom inputs nodes k fanins order t roles
   pub long : 7 * t + 7 ≤ length cuts
   pub six : size_at cuts t ≤ 6
 

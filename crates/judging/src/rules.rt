@@ -13,9 +13,9 @@ use crate::paths::are_paths;
 use covering::covers::depth;
 use drawing::bytes::number_at;
 use sheet::Form;
-use storage::lists::{PLACES, cut_size, size_at};
+use storage::lists::{PLACES, list_at, size_at};
 use storage::marks::label_of;
-use storage::{CutSize, Label, Net, Node};
+use storage::{Label, Net, Node};
 
 // 25: are the leaves of the gate's line a cut of the gate?
 pub fn keeps_cut(net: Net, gate: Node, cuts: &[u16], roles: &mut [u8]) -> bool
@@ -23,9 +23,7 @@ pub fn keeps_cut(net: Net, gate: Node, cuts: &[u16], roles: &mut [u8]) -> bool
     ensures { CutRuled (net_in net.entry.numbers.inputs net.entry.numbers.nodes net.entry.fanins.now) net.entry.numbers.k.leaves (list_at cuts.now gate.id) gate.id
         roles.old result roles.new }
 {
-    let size = cut_size(cuts, gate);
-    let from = PLACES * (gate.id as usize) + 1;
-    walking::is_cut(net, gate, &cuts[from..], size, roles)
+    walking::is_cut(net, gate, list_at(cuts, gate), roles)
 }
 
 // 26: is the gate's label 1 + the greatest label of its leaves, and p or p + 1?
@@ -77,8 +75,7 @@ fn has_evidence(
         (TruePaths (net_in net.entry.numbers.inputs net.entry.numbers.nodes net.entry.fanins.now) (label_in labels.now) gate.id (paths_at sheet.now at width q))
         roles.old result roles.new }
 {
-    let none = CutSize { leaves: 0 };
-    walking::walk(net, gate, labels, none, roles);
+    walking::walk(net, gate, &[], roles);
     area::mark_area(net.numbers, net.fanins, gate, labels, p, roles);
     are_paths(net.fanins, net.numbers.inputs, sheet, at, width, q, roles)
 }

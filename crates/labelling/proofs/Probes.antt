@@ -15,10 +15,10 @@ use Rattle.labelling.specs.Probing.{ProbeAsked, Shown, GateProbed}
 
 module _ {inputs nodes k : ℕ} {fanins order : List ℕ} {t p : ℕ} {labels roles₀ links₀ cut₀ : List ℕ}
     (asked : ProbeAsked inputs nodes k fanins order t p labels roles₀ links₀ cut₀) where
-  pub walk_room : (other : List ℕ) → WalkRoom inputs nodes k fanins order t other 0 roles₀
+  pub walk_room : WalkRoom inputs nodes k fanins order t roles₀
   unfolding net_in
-  walk_room other =
-      record { drawing = asked.drawing; node = asked.gate.below; leaves_long = omega arith; roles_long = asked.roles_long }
+  walk_room =
+      record { drawing = asked.drawing; node = asked.gate.below; roles_long = asked.roles_long }
 
   module _ {walked : List ℕ} (walk : WalkMade (net_in inputs nodes fanins) [] t roles₀ walked) where
     walk_used : Beyond nodes roles₀ walked

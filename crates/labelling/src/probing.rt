@@ -3,7 +3,7 @@ ghost use Rattle.labelling.specs.Probing.{ProbeAsked, GateProbed};
 
 use storage::{CutSize, Label, Net, Node};
 
-// `cut` has room for six leaves. The walk has no leaves, so any list will do for it.
+// `cut` has room for six leaves.
 pub fn probe_gate(
     net: Net,
     gate: Node,
@@ -19,8 +19,7 @@ pub fn probe_gate(
         gate.id labels.now roles.old links.old cut.old result
         roles.new links.new cut.new }
 {
-    let none = CutSize { leaves: 0 };
-    walking::walk(net, gate, labels, none, roles);
+    walking::walk(net, gate, &[], roles);
     area::mark_area(net.numbers, net.fanins, gate, labels, p, roles);
     flow::find(net, roles, links, cut)
 }

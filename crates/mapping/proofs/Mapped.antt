@@ -1,14 +1,15 @@
 -- From a table taken to the promise. And one promise allows one reply.
 use Prim.Native.Nat.{ℕ}
 use native.Mathlib.Omega.{arith}
-use mathlib.Core.Path.{◌≡◌, ap, sym, subst, ◌∙◌}
+use mathlib.Core.Path.{◌≡◌, refl, ap, sym, subst, ◌∙◌}
 use mathlib.Core.List.{List, ◌++◌}
 use lib.ListN.{length, drop}
-use Rattle.std.specs.Prelude.{Ok, Err}
+use Rattle.std.specs.Prelude.{Result, Ok, Err}
 use Rattle.storage.specs.declared.Numbers.{Numbers}
 use Rattle.theory.specs.paper.Net.{Net}
 use Rattle.drawing.specs.paper.Fields.{head_k}
 use Rattle.drawing.specs.paper.Reading.{numbers_of}
+use Rattle.taking.specs.declared.TakeError.{TakeError}
 use Rattle.taking.specs.declared.TakeError.TheVariants as taking
 use Rattle.taking.specs.paper.Says.{Taking, Says}
 use Rattle.taking.specs.Judged.{Ready}
@@ -17,25 +18,34 @@ use Rattle.sheet.specs.paper.Sheet.{Sheet}
 use Rattle.sheet.specs.paper.Encoding.{narrow, encode}
 use Rattle.sheet.specs.paper.Rules.{PathsKept}
 use Rattle.sheet.proofs.Joins.{front_written}
-use Rattle.mapping.specs.declared.Reply.{Reply}
-use Rattle.mapping.specs.declared.Reply.TheVariants.{Mapped, Refused, LoopAt, Room}
+use Rattle.mapping.specs.declared.MapError.{MapError}
+use Rattle.mapping.specs.declared.MapError.TheVariants.{Refused, LoopAt, Room}
 use Rattle.settling.proofs.Tables.{sheet_of_table}
-use Rattle.mapping.specs.Sheets.{TakenMapped}
+use Rattle.mapping.specs.Sheets.{TakenMapped, error_of}
 use Rattle.mapping.specs.paper.Maps.{MapsTo, Maps}
 
 module _ {s fanins rows outputs order : List ℕ} (ready : Ready s fanins rows outputs order) where
-  maps_here : {before : List ℕ} {r : Reply} {after : List ℕ} → TakenMapped (numbers_of s) fanins rows outputs before r after →
+  maps_here : {before : List ℕ} {r : Result ℕ MapError} {after : List ℕ} → TakenMapped (numbers_of s) fanins rows outputs before r after →
       Maps s before r after
   maps_here (TakenMapped.room short is same) = Maps.room ready.taken short is same
   maps_here (TakenMapped.mapped long is done) =
       let front = front_written done.written done.fits in
-      Maps.mapped done.sheet ready.taken long (sheet_of_table ready (λ (net : Net). PathsKept net (head_k s)) done.mappers) (is ∙ ap Mapped front.1)
+      Maps.mapped done.sheet ready.taken long (sheet_of_table ready (λ (net : Net). PathsKept net (head_k s)) done.mappers) (is ∙ ap Ok front.1)
       front.0
 
-  pub maps_taken : {n : Numbers} {before : List ℕ} {r : Reply} {after : List ℕ} → n ≡ numbers_of s →
+  pub maps_taken : {n : Numbers} {before : List ℕ} {r : Result ℕ MapError} {after : List ℕ} → n ≡ numbers_of s →
       TakenMapped n fanins rows outputs before r after → Maps s before r after
   maps_taken {before = before} {r = r} {after = after} is done =
       maps_here (subst (λ (m : Numbers). TakenMapped m fanins rows outputs before r after) is done)
+
+-- a table that is not taken is refused for what is said of it
+pub maps_untaken : {s before : List ℕ} {t : TakeError} {e : MapError} → e ≡ error_of t → Says s (Err t) → Maps s before (Err e) before
+maps_untaken {s} {before} {t} {e} is said = by said refl
+  where
+    by : {u : Taking} → Says s u → u ≡ Err t → Maps s before (Err e) before
+    by (Says.refused {x = x} faulty) same = let z : t ≡ taking.Refused x = cc in Maps.refused faulty (ap Err (is ∙ ap error_of z)) refl
+    by (Says.loop {g = g} whole loop) same = let z : t ≡ taking.LoopAt g = cc in Maps.loop whole loop (ap Err (is ∙ ap error_of z)) refl
+    by (Says.taken _) same = let z : ◌≡◌ {A = ℕ} 0 1 = cc in absurd (omega arith)
 
 -- Two replies that the promise allows are equal, and so is the buffer, but for the evidence of a sheet and what follows from it, its length.
 
@@ -43,16 +53,16 @@ module _ {s fanins rows outputs order : List ℕ} (ready : Ready s fanins rows o
 abbrev pub with_sheet : Sheet → List ℕ → List ℕ
 with_sheet x before = encode narrow x ++ drop (length (encode narrow x)) before
 
-pub data OneReply (s before : List ℕ) (r q : Reply) (a b : List ℕ) : Type 0 where
+pub data OneReply (s before : List ℕ) (r q : Result ℕ MapError) (a b : List ℕ) : Type 0 where
   same : r ≡ q → a ≡ b → OneReply s before r q a b
-  sheets : (x y : Sheet) → MapsTo s x → MapsTo s y → r ≡ Mapped (length (encode narrow x)) → q ≡ Mapped (length (encode narrow y)) →
+  sheets : (x y : Sheet) → MapsTo s x → MapsTo s y → r ≡ Ok (length (encode narrow x)) → q ≡ Ok (length (encode narrow y)) →
       a ≡ with_sheet x before → b ≡ with_sheet y before → OneReply s before r q a b
 
-refusal_of_lem : Taking → Reply
-refusal_of_lem (Ok n) = Room
-refusal_of_lem (Err (taking.Refused x)) = Refused x
-refusal_of_lem (Err (taking.LoopAt g)) = LoopAt g
-refusal_of_lem (Err taking.TooShort) = Room
+refusal_of_lem : Taking → Result ℕ MapError
+refusal_of_lem (Ok n) = Err Room
+refusal_of_lem (Err (taking.Refused x)) = Err (Refused x)
+refusal_of_lem (Err (taking.LoopAt g)) = Err (LoopAt g)
+refusal_of_lem (Err taking.TooShort) = Err Room
 
 kind_of : Taking → ℕ
 kind_of (Ok n) = 0
@@ -63,7 +73,7 @@ kind_of (Err taking.TooShort) = 3
 apart : {s : List ℕ} {t u : Taking} {A : Type 0} → Says s t → Says s u → (kind_of t ≡ kind_of u → ⊥) → A
 apart t u differ = absurd (differ (ap kind_of (says_one t u)))
 
-pub maps_one : {s before : List ℕ} {r q : Reply} {a b : List ℕ} → Maps s before r a → Maps s before q b → OneReply s before r q a b
+pub maps_one : {s before : List ℕ} {r q : Result ℕ MapError} {a b : List ℕ} → Maps s before r a → Maps s before q b → OneReply s before r q a b
 unfolding refusal_of_lem kind_of
 maps_one (Maps.refused x r e) (Maps.refused y q f) = OneReply.same (r ∙ ap refusal_of_lem (says_one (Says.refused x) (Says.refused y)) ∙ sym q) (e ∙ sym f)
 maps_one (Maps.refused x r e) (Maps.loop w l q f) = apart (Says.refused x) (Says.loop w l) (λ z. omega arith)

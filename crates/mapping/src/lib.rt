@@ -8,8 +8,9 @@ mod paths;
 mod sheets;
 mod writing;
 
+ghost use Rattle.std.specs.Prelude.{◌≡◌};
 ghost use Rattle.settling.specs.Arrays.{TakenAsked};
-ghost use Rattle.mapping.specs.Sheets.{TakenMapped};
+ghost use Rattle.mapping.specs.Sheets.{TakenMapped, error_of};
 ghost use Rattle.mapping.specs.paper.Maps.{Maps};
 
 use crate::sheets::map_drawing;
@@ -20,22 +21,34 @@ use sheet::limits::SHEET_ROOM;
 use storage::{Net, Node};
 use taking::{TakeError, take_table};
 
-// A table mapped, with the sheet's length; or refused; or the lowest gate on a loop; or a sheet buffer that is too short.
+// Why a table is not mapped: it is refused; or it has a loop, and this is the lowest gate on one; or the sheet buffer is too short.
 #[derive(Clone, Copy)]
-pub enum Reply {
-    Mapped(usize),
+pub enum MapError {
     Refused(Refusal),
     LoopAt(Node),
     Room,
 }
 
+impl From<TakeError> for MapError {
+    ghost from_gives = { λ take map. map ≡ error_of take };
+
+    fn from(e: TakeError) -> MapError {
+        match e {
+            TakeError::Refused(r) => MapError::Refused(r),
+            TakeError::LoopAt(gate) => MapError::LoopAt(gate),
+            // never given: the arrays have the lengths that `take_table` asks
+            TakeError::TooShort => MapError::Room,
+        }
+    }
+}
+
 // Maps a table that was taken: Room comes last of the refusals.
-fn map_taken(net: Net, rows: &[u64], outputs: &[u16], sheet: &mut [u8]) -> Reply
+fn map_taken(net: Net, rows: &[u64], outputs: &[u16], sheet: &mut [u8]) -> Result<usize, MapError>
     requires { TakenAsked net.numbers net.fanins.now rows.now net.order.now outputs.now }
     ensures { TakenMapped net.entry.numbers net.entry.fanins.now rows.now outputs.now sheet.old result sheet.new }
 {
     if sheet.len() < SHEET_ROOM {
-        return Reply::Room;
+        return Err(MapError::Room);
     }
     let mut labels = [0u16; MOST_NODES];
     let mut cuts = [0u16; MOST_PLACES];
@@ -55,11 +68,11 @@ fn map_taken(net: Net, rows: &[u64], outputs: &[u16], sheet: &mut [u8]) -> Reply
         &mut words,
         sheet,
     );
-    Reply::Mapped(length)
+    Ok(length)
 }
 
-// Maps a gate table into the sheet buffer. Refusals come in the paper's order, and each leaves the buffer as it was.
-pub fn map(table: &[u8], sheet: &mut [u8]) -> Reply
+// Maps a gate table into the sheet buffer, and answers the sheet's length. Refusals come in the paper's order, and each leaves the buffer as it was.
+pub fn map(table: &[u8], sheet: &mut [u8]) -> Result<usize, MapError>
     ensures { Maps table.now sheet.old result sheet.new }
 {
     let mut fanins = [0u16; MOST_PLACES];
@@ -67,28 +80,18 @@ pub fn map(table: &[u8], sheet: &mut [u8]) -> Reply
     let mut outputs = [0u16; MOST_OUTPUTS];
     let mut order = [0u16; MOST_NODES];
     let mut marks = [0u8; MOST_NODES];
-    let taken = take_table(
+    let numbers = take_table(
         table,
         &mut fanins,
         &mut rows,
         &mut outputs,
         &mut order,
         &mut marks,
-    );
-    match taken {
-        Ok(numbers) => map_taken(
-            Net {
-                numbers,
-                fanins: &fanins,
-                order: &order,
-            },
-            &rows,
-            &outputs,
-            sheet,
-        ),
-        Err(TakeError::Refused(r)) => Reply::Refused(r),
-        Err(TakeError::LoopAt(gate)) => Reply::LoopAt(gate),
-        // never given: the arrays have the lengths that `take_table` asks
-        Err(TakeError::TooShort) => Reply::Room,
-    }
+    )?;
+    let net = Net {
+        numbers,
+        fanins: &fanins,
+        order: &order,
+    };
+    map_taken(net, &rows, &outputs, sheet)
 }

@@ -19,6 +19,7 @@ pub fn place_at(names: &[u16], i: usize) -> usize
 }
 
 // The function table of a gate, and its two operands.
+// The bound stays a clause of each (`table_at`, `left_at`, `right_at`): they promise this of every gate that the array has room for, not only of a text's.
 pub fn table_at(gates: &[u16], gate: usize) -> usize
     requires { 3 * (gate + 1) ≤ length gates.now }
     ensures { result ≡ (three_in gates.now gate).table }

@@ -8,7 +8,7 @@ use mathlib.Core.List.{List, ◌++◌}
 use lib.ListN.{length, get_or, take, drop, set, replicate, length-set, length-replicate, take-append-drop}
 use lib.Seq.{take_at, drop-set-lt, get_or-set_same, get_or-set_other}
 use Rattle.storage.specs.Entries.{cleared, Beyond}
-use Rattle.storage.specs.Lists.{size_at}
+use Rattle.storage.specs.Lists.{list_at}
 use Rattle.storage.specs.Columns.{column}
 use Rattle.storage.specs.Drawings.{net_in, tables_in}
 use Rattle.storage.proofs.Clears.{cleared_size, filled_beyond, beyond_same, beyond_then}
@@ -16,7 +16,6 @@ use Rattle.storage.proofs.InColumns.{column_size, column_set, column_before}
 use Rattle.theory.specs.paper.Walk.{Cut}
 use Rattle.theory.specs.paper.Lookup.{ConeTable}
 use Rattle.covering.specs.Cones.{ConeAsked, ConeAnswered}
-use Rattle.covering.proofs.Leaves.{leaves_from, leaves_cut, leaves_room}
 use Rattle.packing.specs.Tables.{values_of, tables_of, TableAsked, TableIs, TableAnswered, TablesAsked, TablesMade}
 
 -- The first column, cleared
@@ -34,26 +33,25 @@ cleared_column n l zeros = ap (λ (x : List ℕ). x ++ drop n l) (sym zeros ∙ 
 -- One table
 
 module _ {inputs nodes k : ℕ} {fanins rows order : List ℕ} {v : ℕ} {cuts luts words : List ℕ}
-    (asked : TableAsked inputs nodes k fanins rows order v cuts luts words) (one : get_or luts v 0 ≡ 1) {size : ℕ} (is : size ≡ size_at cuts v) where
-  pub cone_asked : ConeAsked inputs nodes k fanins rows order v (leaves_from cuts v) size (length words)
+    (asked : TableAsked inputs nodes k fanins rows order v cuts luts words) (one : get_or luts v 0 ≡ 1) {leaves : List ℕ} (lent : leaves ≡ list_at cuts v) where
+  pub cone_asked : ConeAsked inputs nodes k fanins rows order v leaves (length words)
   cone_asked =
       let a = asked.arrays in
       record {
         drawing = a.drawing;
         rows_long = a.rows_long;
         gate = a.gate v asked.low one;
-        leaves_long = leaves_room cuts v is (omega (arith, a.cuts_long, asked.low)) (a.six v asked.low);
-        cut = subst (Cut (net_in inputs nodes fanins) k v) (sym (leaves_cut cuts v is)) (a.cut v asked.low one);
+        cut = subst (Cut (net_in inputs nodes fanins) k v) (sym lent) (a.cut v asked.low one);
         values_long = asked.words_long;
       }
 
-  pub cone_answered : {table : ℕ} {words' : List ℕ} → ConeAnswered inputs nodes fanins rows v (leaves_from cuts v) size words table words' →
+  pub cone_answered : {table : ℕ} {words' : List ℕ} → ConeAnswered inputs nodes fanins rows v leaves words table words' →
       TableAnswered inputs nodes fanins rows cuts luts v words table words'
   cone_answered {table} answer =
       record {
         is =
             record {
-              root = λ _. subst (λ (cut : List ℕ). ConeTable (net_in inputs nodes fanins) (tables_in rows) cut v table) (leaves_cut cuts v is) answer.table_is;
+              root = λ _. subst (λ (cut : List ℕ). ConeTable (net_in inputs nodes fanins) (tables_in rows) cut v table) lent answer.table_is;
               other = λ none. absurd (none one);
             };
         kept = answer.values ∙ cleared_column nodes words asked.clear;

@@ -6,7 +6,7 @@ ghost use Rattle.packing.specs.Tables.{TableAsked, TableAnswered, TablesAsked, T
 use covering::cones::cone_table;
 use covering::covers::{cover, depth};
 use labelling::label_gates;
-use storage::lists::{PLACES, cut_size};
+use storage::lists::list_at;
 use storage::{Label, Net, Node, fill};
 
 // How many LUTs there are, and how deep they are.
@@ -27,8 +27,7 @@ fn table_of(net: Net, rows: &[u64], gate: Node, cuts: &[u16], luts: &[u8], words
     if luts[v] != 1 {
         return 0;
     }
-    let at = PLACES * v + 1;
-    cone_table(net, rows, gate, &cuts[at..], cut_size(cuts, gate), words)
+    cone_table(net, rows, gate, list_at(cuts, gate), words)
 }
 
 // The tables of all nodes, behind the words for a cone's values.

@@ -4,16 +4,17 @@ use native.Mathlib.Omega.{arith}
 use mathlib.Core.Path.{◌≡◌, ap, sym, ◌∙◌}
 use mathlib.Core.List.{List}
 use lib.ListN.{length}
+use Rattle.std.specs.Prelude.{Result}
 use Rattle.sheet.specs.paper.Sheet.{Sheet}
 use Rattle.sheet.specs.paper.Encoding.{narrow, encode}
-use Rattle.mapping.specs.declared.Reply.{Reply}
+use Rattle.mapping.specs.declared.MapError.{MapError}
 use Rattle.mapping.specs.paper.Maps as mapper
 use Rattle.mapping.specs.paper.Maps.{MapsTo}
 use Rattle.mapping.proofs.Mapped.{with_sheet, OneReply, maps_one}
 use Rattle.inspecting.specs.declared.Inspection.{Inspection}
 use Rattle.inspecting.specs.paper.Inspecting as inspector
 use Rattle.inspecting.proofs.Replies.{one_reply}
-use Rattle.compiling.specs.declared.Reply as compiling
+use Rattle.compiling.specs.declared.CompileError.{CompileError}
 use Rattle.compiling.specs.paper.Compiles as compiler
 use Rattle.compiling.proofs.One.{compiles_one}
 use Rattle.plover.specs.paper.Words.{half, word_of, MapsAs, InspectsAs, CompilesAs}
@@ -39,7 +40,7 @@ pub data OneWord (s before : List ℕ) (w v : ℕ) (a b : List ℕ) : Type 0 whe
   sheets : (x y : Sheet) → MapsTo s x → MapsTo s y → w ≡ length (encode narrow x) → v ≡ length (encode narrow y) →
       a ≡ with_sheet x before → b ≡ with_sheet y before → OneWord s before w v a b
 
-abbrev map_word : Reply → ℕ
+abbrev map_word : Result ℕ MapError → ℕ
 map_word r = word_of (mapper.number r) (mapper.place r)
 
 pub map_word_one : {s before : List ℕ} {w v : ℕ} {a b : List ℕ} → MapsAs s before w a → MapsAs s before v b → OneWord s before w v a b
@@ -56,7 +57,7 @@ inspect_word r = word_of (inspector.number r) (inspector.place r)
 pub inspect_word_one : {s t : List ℕ} {w v : ℕ} → InspectsAs s t w → InspectsAs s t v → w ≡ v
 inspect_word_one {s} {t} m n = m.word ∙ ap inspect_word (one_reply s t m.inspects n.inspects) ∙ sym n.word
 
-abbrev equations_word : compiling.Reply → ℕ
+abbrev equations_word : Result ℕ CompileError → ℕ
 equations_word r = word_of (compiler.number r) (compiler.place r)
 
 pub equations_word_one : {s : List ℕ} {k : ℕ} {before : List ℕ} {w v : ℕ} {a b : List ℕ} → CompilesAs s k before w a → CompilesAs s k before v b →

@@ -1,6 +1,6 @@
 -- Every place that a reply names fits 32 bits: the places in a table's bytes and a sheet's are small, a gate is one of 192 nodes, a sheet of the
 -- mapper's has at most 43,554 bytes, and a depth is at most 191; a text in the grammar has at most 8,192 bytes, and its table at most 4,096.
-use Rattle.std.specs.Prelude.{Ok}
+use Rattle.std.specs.Prelude.{Result, Ok}
 use Prim.Native.Nat.{ℕ, ◌-◌, ◌≤◌, ◌<◌}
 use native.Mathlib.Omega.{arith}
 use mathlib.Core.Path.{◌≡◌, refl, ap, sym, subst}
@@ -8,7 +8,6 @@ use mathlib.Core.Logic.{⊎_elim}
 use mathlib.Core.List.{List, [], ◌∷◌, ◌++◌, map, flat_map, Memᴰ}
 use lib.ListN.{length, get_or}
 use Rattle.theory.specs.paper.Net.{Net}
-use Rattle.std.specs.Prelude.{Ok}
 use Rattle.drawing.specs.paper.Fields.{head_k}
 use Rattle.drawing.specs.paper.Table.{net_of, tables_of}
 use Rattle.drawing.specs.paper.Reading.{found, table_of, nodes_of}
@@ -25,7 +24,7 @@ use Rattle.sheet.proofs.Listed.{root_gate}
 use Rattle.keeping.proofs.Listed.{flat_member, map_member}
 use Rattle.keeping.proofs.Shaped.{mappers_kept}
 use Rattle.keeping.proofs.Tables.{bounded, outputs_are_nodes, nodes_few, nodes_are, k_few, drawing, table_ranked}
-use Rattle.mapping.specs.declared.Reply.{Reply}
+use Rattle.mapping.specs.declared.MapError.{MapError}
 use Rattle.mapping.specs.paper.Maps as mapper
 use Rattle.mapping.specs.paper.Maps.{Maps, MapsTo}
 use Rattle.inspecting.specs.declared.Inspection.{Inspection}
@@ -37,7 +36,7 @@ use Rattle.grammar.specs.paper.Grammar.{System}
 use Rattle.grammar.specs.paper.Names.{Misnamed}
 use Rattle.grammar.specs.paper.Gates.{table_for}
 use Rattle.grammar.proofs.Places.{use_placed, definition_placed, placed_inside}
-use Rattle.compiling.specs.declared.Reply as compiling
+use Rattle.compiling.specs.declared.CompileError.{CompileError}
 use Rattle.compiling.specs.paper.Compiles as compiler
 use Rattle.compiling.specs.paper.Compiles.{Typed, Drawable, Compiles}
 use Rattle.compiling.proofs.Drawables.{table_within, table_fits}
@@ -52,7 +51,7 @@ sheet_length s sheet taken to =
     (outputs_are_nodes s whole) to)
     (k_few s whole) (nodes_few s whole)
 
-pub map_place : (s before : List ℕ) (r : Reply) (after : List ℕ) → Maps s before r after → mapper.place r < half
+pub map_place : (s before : List ℕ) (r : Result ℕ MapError) (after : List ℕ) → Maps s before r after → mapper.place r < half
 map_place s before r after (Maps.refused e is same) = omega (arith, refused_place s e, ap mapper.place is)
 map_place s before r after (Maps.loop e l is same) = omega (arith, l.gate.below, nodes_few s e, ap mapper.place is)
 map_place s before r after (Maps.room taken short is same) = omega (arith, ap mapper.place is)
@@ -142,7 +141,7 @@ table_nodes : {s : List ℕ} {k : ℕ} {sys : System} → Drawable s k sys → (
 unfolding net_of
 table_nodes drawable = (table_within drawable.typed drawable.numbers).nodes_most
 
-pub equations_place : {s : List ℕ} {k : ℕ} {before : List ℕ} (r : compiling.Reply) {after : List ℕ} → Compiles s k before r after → compiler.place r < half
+pub equations_place : {s : List ℕ} {k : ℕ} {before : List ℕ} (r : Result ℕ CompileError) {after : List ℕ} → Compiles s k before r after → compiler.place r < half
 equations_place r (Compiles.long over is same) = omega (arith, ap compiler.place is)
 equations_place r (Compiles.ungrammatical short none longest is same) = omega (arith, ap compiler.place is, longest.shared.within)
 equations_place r (Compiles.misnamed typed first is same) = omega (arith, ap compiler.place is, misnamed_inside typed first.misnamed)

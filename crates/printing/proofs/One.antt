@@ -11,7 +11,7 @@ use Rattle.mapping.specs.paper.Maps.{MapsTo}
 use Rattle.mapping.proofs.Mapped.{with_sheet, OneReply, maps_one}
 use Rattle.inspecting.proofs.Replies.{one_reply}
 use Rattle.std.specs.Prelude.{Result, Ok}
-use Rattle.mapping.specs.declared.Reply.{Reply}
+use Rattle.mapping.specs.declared.MapError.{MapError}
 use Rattle.printing.specs.paper.Reports.{line_of, Report, Reports}
 use Rattle.printing.specs.paper.Draws.{shown_of, refusal_of, Draws}
 
@@ -41,4 +41,4 @@ draws_one {s} {before} {text} {r} {q} {a} {b} {t} {u} (Draws.drawn x line high m
         OneDrawn.same (is ∙ (λ i. shown_of (e i) (texts.0 i)) ∙ sym is') buffer texts.1
     by (OneReply.sheets a-sheet b-sheet to to' e e' front front') =
         let texts = wrote_one wrote wrote' (ap refusal_of e ∙ sym (ap refusal_of e')) in
-        OneDrawn.sheets a-sheet b-sheet to to' (is ∙ ap (λ (z : Reply). shown_of z line) e) (is' ∙ ap (λ (z : Reply). shown_of z line') e') front front' texts.1
+        OneDrawn.sheets a-sheet b-sheet to to' (is ∙ ap (λ (z : Result ℕ MapError). shown_of z line) e) (is' ∙ ap (λ (z : Result ℕ MapError). shown_of z line') e') front front' texts.1

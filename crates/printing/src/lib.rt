@@ -11,7 +11,7 @@ ghost use Rattle.printing.specs.paper.Draws.{Draws};
 use inspecting::answers::{number_of_inspection, place_of_inspection};
 use inspecting::{Inspection, inspect};
 use mapping::answers::{number_of_reply, place_of_reply};
-use mapping::{Reply, map};
+use mapping::map;
 use wording::{write_accepted, write_refused};
 
 // Room for the longest line.
@@ -57,7 +57,7 @@ pub fn draw_up(table: &[u8], sheet: &mut [u8], text: &mut [u8]) -> Result<usize,
     }
     let reply = map(table, sheet);
     match reply {
-        Reply::Mapped(length) => Ok(length),
-        _ => Err(write_refused(number_of_reply(reply), place_of_reply(reply), text)),
+        Ok(length) => Ok(length),
+        Err(_) => Err(write_refused(number_of_reply(reply), place_of_reply(reply), text)),
     }
 }

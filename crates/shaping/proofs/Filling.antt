@@ -167,8 +167,8 @@ module _ {luts : List Lut} where
       }
 
 -- the stores of one node are its line, or its LUT
-module _ (s : List ℕ) (v : ℕ) {cuts cuts' : List ℕ}
-    (bare : Filled cuts (7 * v) (7 * v + 7) (λ i. get_or (counted (ids_at s 0 1 0)) (i - 7 * v) 0) cuts') where
+module _ (s : List ℕ) (width v : ℕ) {cuts cuts' : List ℕ}
+    (bare : Filled cuts (7 * v) (7 * v + 7) (λ i. get_or (counted (ids_at s 0 width 0)) (i - 7 * v) 0) cuts') where
   pub no_line_put : {labels places : List ℕ} → LinePut no_line 0 v (line_arrays labels cuts places) (line_arrays (set labels v 0) cuts' (set places v 0))
   no_line_put = record { labels = refl; cuts = bare; places = refl }
 

@@ -9,7 +9,6 @@ use borrow.Author.Tests.{lt-ltb, le-ltb, eq-eqb, ne_eqb, ltb-false, leb-false}
 use lib.ListN.{length, get_or}
 use lib.Dec.{ltb, leb}
 use Rattle.drawing.specs.paper.Bytes.{number_at, value_at}
-use Rattle.drawing.specs.Bytes.{Narrow}
 use Rattle.sheet.specs.declared.Fault.TheVariants.{Extra}
 use Rattle.sheet.specs.paper.Shape.{Ruling}
 use Rattle.sheet.specs.paper.Sheet.{Line, Lut, Sheet, no_line}
@@ -332,11 +331,10 @@ module _ {due : Due} {s : List ℕ} {before between : LineArrays} {v at : ℕ} (
     pub gate_end : end_at s at ≤ length s
     gate_end = line_end due s at gate_here.ruled
 
-    pub gate_ready : Narrow due.form.width → length s < 2 ^ 32 → LineReady due s at
-    gate_ready narrow short =
+    pub gate_ready : length s < 2 ^ 32 → LineReady due s at
+    gate_ready short =
         let ruled = gate_here.ruled in
         record {
-          narrow = narrow;
           whole = omega (arith, (line_parts due s at (line_kept due s at ruled).right).paths, line_end due s at ruled);
           short = short;
         }

@@ -1,22 +1,14 @@
 -- What the loops that load a sheet ask and leave, field by field.
 use Rattle.std.specs.Prelude.{ℕ, ◌+◌, ◌-◌, ◌^◌, ◌≤◌, ◌<◌, ◌≡◌, cond, List, length, eqb, Ok}
-use Rattle.drawing.specs.paper.Limits.{rows_size}
 use Rattle.drawing.specs.paper.Bytes.{number_at, value_at}
-use Rattle.drawing.specs.Bytes.{Narrow}
 use Rattle.sheet.specs.paper.Sheet.{Lut}
-use Rattle.sheet.specs.paper.Shape.{Due, end_at, leaves_end, line_cut, lut_cut, luts_from, reading}
+use Rattle.sheet.specs.paper.Shape.{Due, end_at, leaves_end, line_cut, luts_from, reading}
 use Rattle.shaping.specs.Loading.{start_of, LineArrays, LinesFilled, listed_at}
 
 -- The line at `at` can be stored: it lies within the bytes, and its place fits.
 pub record LineReady (due : Due) (s : List ℕ) (at : ℕ) : Type 0 where
-  pub narrow : Narrow due.form.width
   pub whole : leaves_end due s (line_cut due s at) ≤ length s
   pub short : length s < 2 ^ 32
-
--- The LUT at `at` can be stored: it lies within the bytes.
-pub record LutReady (due : Due) (s : List ℕ) (at : ℕ) : Type 0 where
-  pub narrow : Narrow due.form.width
-  pub whole : leaves_end due s (lut_cut due s at) + rows_size ≤ length s
 
 -- All nodes' lines loaded, and where they end.
 pub record LinesLoaded (due : Due) (s : List ℕ) (before : LineArrays) (r : ℕ) (after : LineArrays) : Type 0 where
@@ -29,7 +21,6 @@ next_root due s at left = cond (eqb left 0) due.nodes (number_at s (value_at at)
 
 -- where a LUT is left, its root lies within the bytes
 pub record NextReady (due : Due) (s : List ℕ) (at left : ℕ) : Type 0 where
-  pub narrow : Narrow due.form.width
   pub nodes : due.nodes ≤ 32767
   pub inside : 0 < left → value_at at + due.form.width ≤ length s
 

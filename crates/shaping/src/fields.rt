@@ -1,15 +1,14 @@
 // The ruling on one field of a sheet, rule by rule in the paper's order.
 ghost use Rattle.std.specs.Prelude.{◌≡◌, false, not, ◌||◌, ◌+◌, ◌≤◌, length, eqb};
-ghost use Rattle.drawing.specs.Bytes.{Narrow};
 ghost use Rattle.drawing.specs.paper.Rules.{first};
 ghost use Rattle.sheet.specs.paper.Limits.{depth_place};
 ghost use Rattle.sheet.specs.paper.Shape.{field_rules, end_at, head_ruling, line_range, line_at, line_length_wrong, line_ruling, lut_range, lut_at, lut_length_wrong, lut_ruling};
 ghost use Rattle.shaping.specs.Terms.{due_of};
 ghost use Rattle.shaping.specs.Fields.{field_at, head_out_of_range};
 
-use crate::Terms;
 use crate::numbers::{label_at, leaves_in_range, node_at, size_at};
 use crate::paths::{paths_in_range, paths_use};
+use crate::terms::Terms;
 use drawing::bytes::{byte_at, length_at, small_at};
 use drawing::limits::{FRAME, ROWS_SIZE, VERSION, VERSION_AT};
 use sheet::Fault;
@@ -61,21 +60,17 @@ pub fn field_end(sheet: &[u8], at: usize) -> usize
 }
 
 fn head_in_range(terms: Terms, sheet: &[u8]) -> bool
-    requires narrow { Narrow terms.form.width }
-    requires inputs_le_nodes { terms.numbers.inputs ≤ terms.numbers.nodes }
-    requires width_in_bounds { depth_place + terms.form.width + terms.form.width ≤ length sheet.now }
+    requires { depth_place + terms.form.width + terms.form.width ≤ length sheet.now }
     ensures { result ≡ not (head_out_of_range (due_of terms) sheet.now) }
 {
     let width = terms.form.width;
     small_at(sheet, VERSION_AT, VERSION_SIZE) == VERSION
-        && label_at(sheet, DEPTH_AT, width).depth <= terms.most.depth
+        && label_at(terms, sheet, DEPTH_AT).depth <= terms.most.depth
         && small_at(sheet, DEPTH_AT + width, width) <= terms.numbers.nodes - terms.numbers.inputs
 }
 
 pub fn head_ruling(terms: Terms, sheet: &[u8], field: Option<Front>) -> Result<(), Fault>
-    requires narrow { Narrow terms.form.width }
-    requires inputs_le_nodes { terms.numbers.inputs ≤ terms.numbers.nodes }
-    requires field_value { field ≡ field_at sheet.now 0 }
+    requires { field ≡ field_at sheet.now 0 }
     ensures { result ≡ head_ruling (due_of terms) sheet.now }
 {
     frame(sheet, 0, field, terms.form.head)?;
@@ -91,8 +86,7 @@ pub fn head_ruling(terms: Terms, sheet: &[u8], field: Option<Front>) -> Result<(
 
 // Do the counts of the line at `at` use its value up exactly?
 fn line_uses(terms: Terms, sheet: &[u8], at: usize) -> bool
-    requires narrow { Narrow terms.form.width }
-    requires at_in_bounds { end_at sheet.now at ≤ length sheet.now }
+    requires { end_at sheet.now at ≤ length sheet.now }
     ensures { result ≡ not (line_length_wrong (due_of terms) sheet.now at) }
 {
     let width = terms.form.width;
@@ -107,9 +101,9 @@ fn line_uses(terms: Terms, sheet: &[u8], at: usize) -> bool
     }
     let count = small_at(sheet, at + FRAME + before, COUNT_SIZE);
     paths_use(
+        terms,
         sheet,
         at + FRAME + before + COUNT_SIZE,
-        width,
         count,
         at + FRAME + size,
     )
@@ -123,13 +117,12 @@ fn is_path_count(count: usize, k: CutSize) -> bool
 }
 
 fn line_in_range(terms: Terms, sheet: &[u8], at: usize) -> bool
-    requires narrow { Narrow terms.form.width }
     requires at_in_bounds { end_at sheet.now at ≤ length sheet.now }
     requires at_value { line_length_wrong (due_of terms) sheet.now at ≡ false }
     ensures { result ≡ not (line_range (due_of terms) (line_at (due_of terms) sheet.now at)) }
 {
     let width = terms.form.width;
-    let label = label_at(sheet, at + FRAME, width);
+    let label = label_at(terms, sheet, at + FRAME);
     if label.depth < 1 {
         return false;
     }
@@ -146,12 +139,11 @@ fn line_in_range(terms: Terms, sheet: &[u8], at: usize) -> bool
     if !is_path_count(count, terms.numbers.k) {
         return false;
     }
-    paths_in_range(sheet, paths + COUNT_SIZE, width, count, terms.numbers.nodes)
+    paths_in_range(terms, sheet, paths + COUNT_SIZE, count)
 }
 
 pub fn line_ruling(terms: Terms, sheet: &[u8], at: usize, field: Option<Front>) -> Result<(), Fault>
-    requires narrow { Narrow terms.form.width }
-    requires field_value { field ≡ field_at sheet.now at }
+    requires { field ≡ field_at sheet.now at }
     ensures { result ≡ line_ruling (due_of terms) sheet.now at }
 {
     frame(sheet, at, field, terms.form.line)?;
@@ -166,8 +158,7 @@ pub fn line_ruling(terms: Terms, sheet: &[u8], at: usize, field: Option<Front>) 
 
 // Do the counts of the LUT at `at` use its value up exactly? What it shares with `line_uses` are two lines, which no function says plainer.
 fn lut_uses(terms: Terms, sheet: &[u8], at: usize) -> bool
-    requires narrow { Narrow terms.form.width }
-    requires at_in_bounds { end_at sheet.now at ≤ length sheet.now }
+    requires { end_at sheet.now at ≤ length sheet.now }
     ensures { result ≡ not (lut_length_wrong (due_of terms) sheet.now at) }
 {
     let width = terms.form.width;
@@ -180,13 +171,12 @@ fn lut_uses(terms: Terms, sheet: &[u8], at: usize) -> bool
 }
 
 fn lut_in_range(terms: Terms, least: usize, sheet: &[u8], at: usize) -> bool
-    requires narrow { Narrow terms.form.width }
     requires at_in_bounds { end_at sheet.now at ≤ length sheet.now }
     requires at_value { lut_length_wrong (due_of terms) sheet.now at ≡ false }
     ensures { result ≡ not (lut_range (due_of terms) least (lut_at (due_of terms) sheet.now at)) }
 {
     let width = terms.form.width;
-    let root = node_at(sheet, at + FRAME, width).id as usize;
+    let root = node_at(terms, sheet, at + FRAME).id as usize;
     least <= root && root < terms.numbers.nodes && leaves_in_range(terms, sheet, at + FRAME + width)
 }
 
@@ -199,8 +189,7 @@ pub fn lut_ruling(
     at: usize,
     field: Option<Front>,
 ) -> Result<(), Fault>
-    requires narrow { Narrow terms.form.width }
-    requires field_value { field ≡ field_at sheet.now at }
+    requires { field ≡ field_at sheet.now at }
     ensures { result ≡ lut_ruling (due_of terms) sheet.now least at }
 {
     frame(sheet, at, field, terms.form.lut)?;

@@ -8,9 +8,9 @@ mod paths;
 mod reader;
 mod runs;
 mod storing;
+mod terms;
 
-ghost use Rattle.std.specs.Prelude.{◌≡◌, ◌≤◌};
-ghost use Rattle.drawing.specs.Bytes.{Narrow};
+ghost use Rattle.std.specs.Prelude.{◌≡◌};
 ghost use Rattle.sheet.specs.paper.Shape.{reading};
 ghost use Rattle.shaping.specs.Terms.{due_of};
 ghost use Rattle.shaping.specs.Loading.{line_arrays, LineRoom, lut_arrays, LutRoom, Loadable, Loaded};
@@ -19,22 +19,13 @@ use crate::loading::{load_lines, load_luts};
 use crate::numbers::label_at;
 use crate::reader::{begin, move_on, tell};
 use crate::runs::{head_turn, judge_field};
+pub use crate::terms::Terms;
+use sheet::Fault;
 use sheet::limits::DEPTH_AT;
-use sheet::{Fault, Form};
-use storage::{Label, Numbers};
-
-// What a sheet is read by: its form, the greatest depth and label, and the numbers of the drawing.
-#[derive(Clone, Copy)]
-pub struct Terms {
-    pub form: Form,
-    pub most: Label,
-    pub numbers: Numbers,
-}
+use storage::Label;
 
 // Pass one: the ruling on the shape of a sheet. A reader walks its fields, from the front on, until none is due.
 pub fn judge_shape(terms: Terms, sheet: &[u8]) -> Result<(), Fault>
-    requires narrow { Narrow terms.form.width }
-    requires inputs_le_nodes { terms.numbers.inputs ≤ terms.numbers.nodes }
     ensures { result ≡ (reading (due_of terms) sheet.now).ruling }
 {
     let mut reader = begin(sheet);
@@ -66,5 +57,5 @@ pub fn load_sheet(
 {
     let next = load_lines(terms, sheet, labels, cuts, places);
     load_luts(terms, sheet, next, luts, lut_cuts, tables);
-    label_at(sheet, DEPTH_AT, terms.form.width)
+    label_at(terms, sheet, DEPTH_AT)
 }

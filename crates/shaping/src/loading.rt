@@ -5,10 +5,10 @@ ghost use Rattle.shaping.specs.Terms.{due_of};
 ghost use Rattle.shaping.specs.Loading.{start_of, line_arrays, LineRoom, lut_arrays, LutRoom, LutsFilled, Loadable};
 ghost use Rattle.shaping.specs.Turns.{LinesLoaded, next_root, NextReady};
 
-use crate::Terms;
 use crate::fields::field_end;
 use crate::numbers::node_at;
 use crate::storing::{put_line, put_lut, put_no_line, put_no_lut};
+use crate::terms::Terms;
 use drawing::bytes::small_at;
 use drawing::limits::FRAME;
 use sheet::limits::DEPTH_AT;
@@ -30,7 +30,7 @@ pub fn load_lines(
     for v in 0..terms.numbers.nodes {
         let node = Node { id: v as u16 };
         if v < terms.numbers.inputs {
-            put_no_line(sheet, node, labels, cuts, places);
+            put_no_line(terms, sheet, node, labels, cuts, places);
         } else {
             put_line(terms, sheet, at, node, labels, cuts, places);
             at = field_end(sheet, at);
@@ -57,7 +57,7 @@ fn next_root(terms: Terms, sheet: &[u8], turn: Turn) -> Node
             id: terms.numbers.nodes as u16,
         };
     }
-    node_at(sheet, at + FRAME, terms.form.width)
+    node_at(terms, sheet, at + FRAME)
 }
 
 // The entries of all nodes' LUTs, which start at `start`: those of the next LUT if the node is its root.
@@ -83,7 +83,7 @@ pub fn load_luts(
     for v in 0..terms.numbers.nodes {
         let node = Node { id: v as u16 };
         if next_root(terms, sheet, turn).id != node.id {
-            put_no_lut(sheet, node, luts, cuts, tables);
+            put_no_lut(terms, sheet, node, luts, cuts, tables);
         } else {
             put_lut(terms, sheet, turn.at, node, luts, cuts, tables);
             turn = Turn {

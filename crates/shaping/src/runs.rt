@@ -1,14 +1,13 @@
 // Pass one from field to field: the head, the gates' lines, the LUTs, and that nothing follows them.
 ghost use Rattle.std.specs.Prelude.{◌≡◌, ◌<◌, ◌≤◌};
-ghost use Rattle.drawing.specs.Bytes.{Narrow};
 ghost use Rattle.sheet.specs.paper.Shape.{reading};
 ghost use Rattle.shaping.specs.Terms.{due_of};
 ghost use Rattle.shaping.specs.Fields.{field_at};
 ghost use Rattle.shaping.specs.Runs.{GoesOn, Turned, FieldJudged};
 
-use crate::Terms;
 use crate::fields::{Front, head_ruling, line_ruling, lut_ruling};
 use crate::numbers::node_at;
+use crate::terms::Terms;
 use drawing::bytes::small_at;
 use drawing::limits::FRAME;
 use sheet::Fault;
@@ -24,9 +23,7 @@ pub struct Left {
 
 // What is due behind the head.
 pub fn head_turn(terms: Terms, sheet: &[u8], field: Option<Front>) -> Result<Left, Fault>
-    requires narrow { Narrow terms.form.width }
-    requires inputs_le_nodes { terms.numbers.inputs ≤ terms.numbers.nodes }
-    requires field_value { field ≡ field_at sheet.now 0 }
+    requires { field ≡ field_at sheet.now 0 }
     ensures { GoesOn (due_of terms) sheet.now 0 (reading (due_of terms) sheet.now).ruling result }
 {
     head_ruling(terms, sheet, field)?;
@@ -47,7 +44,6 @@ fn line_turn(
     field: Option<Front>,
     left: Left,
 ) -> Result<Left, Fault>
-    requires narrow { Narrow terms.form.width }
     requires field_value { field ≡ field_at sheet.now at }
     requires lines_nonzero { 0 < left.lines }
     ensures { Turned (due_of terms) sheet.now at left result }
@@ -68,14 +64,13 @@ fn lut_turn(
     field: Option<Front>,
     left: Left,
 ) -> Result<Left, Fault>
-    requires narrow { Narrow terms.form.width }
     requires field_value { field ≡ field_at sheet.now at }
     requires lines_bound { left.lines ≤ 0 }
     requires luts_nonzero { 0 < left.luts }
     ensures { Turned (due_of terms) sheet.now at left result }
 {
     lut_ruling(terms, left.least, sheet, at, field)?;
-    let root = node_at(sheet, at + FRAME, terms.form.width);
+    let root = node_at(terms, sheet, at + FRAME);
     Ok(Left {
         lines: left.lines,
         luts: left.luts - 1,
@@ -91,8 +86,7 @@ pub fn judge_field(
     field: Option<Front>,
     left: Left,
 ) -> Result<Option<Left>, Fault>
-    requires narrow { Narrow terms.form.width }
-    requires field_value { field ≡ field_at sheet.now at }
+    requires { field ≡ field_at sheet.now at }
     ensures { FieldJudged (due_of terms) sheet.now at left result }
 {
     if 0 < left.lines {

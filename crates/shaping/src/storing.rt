@@ -1,26 +1,25 @@
 // One node's entries in the arrays that a sheet is loaded into.
 ghost use Rattle.std.specs.Prelude.{◌≡◌, ◌+◌, ◌*◌, ◌-◌, ◌≤◌, ◌<◌, length, get_or};
 ghost use Rattle.sheet.specs.paper.Sheet.{no_line};
+ghost use Rattle.drawing.specs.paper.Limits.{rows_size};
 ghost use Rattle.drawing.specs.paper.Bytes.{ids_at};
-ghost use Rattle.drawing.specs.Bytes.{Narrow};
-ghost use Rattle.sheet.specs.paper.Shape.{line_at, lut_at};
+ghost use Rattle.sheet.specs.paper.Shape.{leaves_end, line_at, lut_cut, lut_at};
 ghost use Rattle.shaping.specs.Terms.{due_of};
 ghost use Rattle.shaping.specs.Loading.{Filled, counted, line_arrays, LineRoom, LinePut, lut_arrays, LutRoom, LutPut, none_listed, lut_listed};
-ghost use Rattle.shaping.specs.Turns.{LineReady, LutReady};
+ghost use Rattle.shaping.specs.Turns.{LineReady};
 
-use crate::Terms;
 use crate::numbers::{label_at, node_at, size_at};
+use crate::terms::Terms;
 use drawing::bytes::number_at;
-use drawing::limits::{FRAME, ID_SIZE, ROWS_SIZE};
+use drawing::limits::{FRAME, ROWS_SIZE};
 use sheet::limits::COUNT_SIZE;
 use storage::lists::PLACES;
 use storage::{CutSize, Node};
 
 // What stands at the i-th place of a list of `size` ids that are read from `at` on: how many, then the ids, and 0 behind them.
-fn list_place(sheet: &[u8], at: usize, width: usize, size: CutSize, i: usize) -> u16
-    requires narrow { Narrow width }
-    requires width_in_bounds { at + size.leaves * width ≤ length sheet.now }
-    ensures { result ≡ get_or (counted (ids_at sheet.now at width size.leaves)) i 0 }
+fn list_place(terms: Terms, sheet: &[u8], at: usize, size: CutSize, i: usize) -> u16
+    requires { at + size.leaves * terms.form.width ≤ length sheet.now }
+    ensures { result ≡ get_or (counted (ids_at sheet.now at terms.form.width size.leaves)) i 0 }
 {
     if i == 0 {
         return size.leaves as u16;
@@ -29,24 +28,24 @@ fn list_place(sheet: &[u8], at: usize, width: usize, size: CutSize, i: usize) ->
     if size.leaves as usize <= before {
         return 0;
     }
-    node_at(sheet, at + before * width, width).id
+    node_at(terms, sheet, at + before * terms.form.width).id
 }
 
 // Fills the seven places of a node by the `size` ids from `at` on.
-fn put_list(sheet: &[u8], at: usize, width: usize, size: CutSize, cuts: &mut [u16], node: Node)
-    requires narrow { Narrow width }
-    requires width_in_bounds { at + size.leaves * width ≤ length sheet.now }
+fn put_list(terms: Terms, sheet: &[u8], at: usize, size: CutSize, cuts: &mut [u16], node: Node)
+    requires width_in_bounds { at + size.leaves * terms.form.width ≤ length sheet.now }
     requires id_in_bounds { 7 * node.id + 7 ≤ length cuts.old }
-    ensures { Filled cuts.old (7 * node.id) (7 * node.id + 7) (λ i. get_or (counted (ids_at sheet.now at width size.leaves)) (i - 7 * node.id) 0) cuts.new }
+    ensures { Filled cuts.old (7 * node.id) (7 * node.id + 7) (λ i. get_or (counted (ids_at sheet.now at terms.form.width size.leaves)) (i - 7 * node.id) 0) cuts.new }
 {
     let base = PLACES * (node.id as usize);
     for i in 0..PLACES {
-        cuts[base + i] = list_place(sheet, at, width, size, i);
+        cuts[base + i] = list_place(terms, sheet, at, size, i);
     }
 }
 
 // An input's entries: no label, no leaves.
 pub fn put_no_line(
+    terms: Terms,
     sheet: &[u8],
     node: Node,
     labels: &mut [u16],
@@ -59,7 +58,7 @@ pub fn put_no_line(
     let v = node.id as usize;
     labels[v] = 0;
     places[v] = 0;
-    put_list(sheet, 0, ID_SIZE, CutSize { leaves: 0 }, cuts, node);
+    put_list(terms, sheet, 0, CutSize { leaves: 0 }, cuts, node);
 }
 
 // A gate's entries, of its line at `at`.
@@ -80,20 +79,27 @@ pub fn put_line(
     let width = terms.form.width;
     let cut = at + FRAME + width;
     let size = size_at(sheet, cut);
-    labels[v] = label_at(sheet, at + FRAME, width).depth;
+    labels[v] = label_at(terms, sheet, at + FRAME).depth;
     places[v] = at as u32;
-    put_list(sheet, cut + COUNT_SIZE, width, size, cuts, node);
+    put_list(terms, sheet, cut + COUNT_SIZE, size, cuts, node);
 }
 
 // The entries of a node that is no root.
-pub fn put_no_lut(sheet: &[u8], node: Node, luts: &mut [u8], cuts: &mut [u16], tables: &mut [u64])
+pub fn put_no_lut(
+    terms: Terms,
+    sheet: &[u8],
+    node: Node,
+    luts: &mut [u8],
+    cuts: &mut [u16],
+    tables: &mut [u64],
+)
     requires { LutRoom (node.id + 1) (lut_arrays luts.old cuts.old tables.old) }
     ensures { LutPut none_listed node.id (lut_arrays luts.old cuts.old tables.old) (lut_arrays luts.new cuts.new tables.new) }
 {
     let v = node.id as usize;
     luts[v] = 0;
     tables[v] = 0;
-    put_list(sheet, 0, ID_SIZE, CutSize { leaves: 0 }, cuts, node);
+    put_list(terms, sheet, 0, CutSize { leaves: 0 }, cuts, node);
 }
 
 // A root's entries, of its LUT at `at`. What it shares with `put_line` is `put_list`; one function would need a trait for two pairs of types,
@@ -107,7 +113,7 @@ pub fn put_lut(
     cuts: &mut [u16],
     tables: &mut [u64],
 )
-    requires lut_ready { LutReady (due_of terms) sheet.now at }
+    requires whole { leaves_end (due_of terms) sheet.now (lut_cut (due_of terms) sheet.now at) + rows_size ≤ length sheet.now }
     requires lut_room { LutRoom (node.id + 1) (lut_arrays luts.old cuts.old tables.old) }
     ensures { LutPut (lut_listed (lut_at (due_of terms) sheet.now at)) node.id (lut_arrays luts.old cuts.old tables.old) (lut_arrays luts.new cuts.new tables.new) }
 {
@@ -121,5 +127,5 @@ pub fn put_lut(
         cut + COUNT_SIZE + size.leaves as usize * width,
         ROWS_SIZE,
     );
-    put_list(sheet, cut + COUNT_SIZE, width, size, cuts, node);
+    put_list(terms, sheet, cut + COUNT_SIZE, size, cuts, node);
 }

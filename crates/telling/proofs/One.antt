@@ -1,4 +1,5 @@
 -- The promise allows one answer, one table and one text: `tells_one`.
+use Rattle.std.specs.Prelude.{Result}
 use Prim.Native.Nat.{ℕ}
 use native.Mathlib.Omega.{arith}
 use mathlib.Core.Path.{◌≡◌, ap, sym, subst, ◌∙◌}
@@ -8,7 +9,7 @@ use Rattle.wording.specs.paper.Text.{refused_line}
 use Rattle.wording.proofs.Filled.{wrote_one}
 use Rattle.listing.specs.paper.Lists.{Lists}
 use Rattle.listing.proofs.One.{lists_one}
-use Rattle.compiling.specs.declared.Reply.{Reply}
+use Rattle.compiling.specs.declared.CompileError.{CompileError}
 use Rattle.compiling.specs.paper.Compiles.{number, place}
 use Rattle.compiling.proofs.One.{compiles_one}
 use Rattle.telling.specs.declared.Lengths.{Lengths}
@@ -25,7 +26,7 @@ tells_one (Tells.short low p o a t) (Tells.listed room x l) = absurd (omega arit
 tells_one (Tells.refused reply room x some p a w) (Tells.short low p' o b u) = absurd (omega arith)
 tells_one (Tells.refused reply room x some p a w) (Tells.refused other room' y some' p' b v) =
     let (is, tables) = compiles_one x y in
-    let (sizes, texts) = wrote_one w v (ap (λ (z : Reply). refused_line (number z) (place z)) is) in
+    let (sizes, texts) = wrote_one w v (ap (λ (z : Result ℕ CompileError). refused_line (number z) (place z)) is) in
     (lengths (p ∙ sym p') sizes, tables, texts)
 tells_one (Tells.refused reply room x some p a w) (Tells.listed room' y l) = absurd (some (ap number (compiles_one x y).0))
 tells_one (Tells.listed room x l) (Tells.short low p o b u) = absurd (omega arith)

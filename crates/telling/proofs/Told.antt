@@ -1,7 +1,8 @@
 -- What becomes of a reply of `compile`: a table lies at its buffer's front; every other reply has its line, and leaves the table's buffer as it was.
+use Rattle.std.specs.Prelude.{Result, Ok, Err}
 use Prim.Native.Nat.{ℕ, ◌≤◌, ◌<◌}
 use native.Mathlib.Omega.{arith}
-use mathlib.Core.Path.{◌≡◌, refl, ap, subst}
+use mathlib.Core.Path.{◌≡◌, refl, ap, sym, subst, ◌∙◌}
 use mathlib.Core.List.{List}
 use lib.ListN.{length, take, drop, length-append}
 use Rattle.tabling.specs.paper.Encoding.{encode}
@@ -11,19 +12,18 @@ use Rattle.wording.specs.paper.Puts.{Wrote}
 use Rattle.wording.specs.paper.Filled.{Front}
 use Rattle.wording.proofs.Filled.{at_front, wrote_fits, refused_as}
 use Rattle.listing.specs.paper.Lists.{text_room, Lists}
-use Rattle.compiling.specs.declared.Reply.{Reply}
-use Rattle.compiling.specs.declared.Reply.TheVariants.{Compiled, Text, Name, Numbers, LoopAt, Room}
+use Rattle.compiling.specs.declared.CompileError.{CompileError}
+use Rattle.compiling.specs.declared.CompileError.TheVariants.{Text, Name, Numbers, LoopAt, Room}
 use Rattle.compiling.specs.paper.Compiles.{number, place, Compiles}
 use Rattle.telling.specs.paper.Tells.{Tells}
 
--- each reply but the first has a number
-some_number : (r : Reply) → ((n : ℕ) → r ≡ Compiled n → ⊥) → number r ≡ 0 → ⊥
-some_number (Compiled n) one e = absurd (one n refl)
-some_number (Text at) one e = omega arith
-some_number (Name at) one e = omega arith
-some_number Numbers one e = omega arith
-some_number (LoopAt gate) one e = omega arith
-some_number Room one e = omega arith
+-- each refusal has a number
+some_number : (e : CompileError) → number (Err e) ≡ 0 → ⊥
+some_number (Text at) zero = omega arith
+some_number (Name at) zero = omega arith
+some_number Numbers zero = omega arith
+some_number (LoopAt gate) zero = omega arith
+some_number Room zero = omega arith
 
 -- both lengths count bytes at the front of their buffers
 abbrev pub Told : (s : List ℕ) (k : ℕ) (table lines : List ℕ) (n m : ℕ) (table' lines' : List ℕ) → Type 0
@@ -31,7 +31,7 @@ Told s k table lines n m table' lines' =
     Tells s k table lines (record { table = n; lines = m }) table' lines' × (Front n table' × Front m lines')
 
 module _ {s : List ℕ} {k : ℕ} {table table' : List ℕ} where
-  table_fits : {n : ℕ} → Compiles s k table (Compiled n) table' → n ≤ length table'
+  table_fits : {n : ℕ} → Compiles s k table (Ok n) table' → n ≤ length table'
   table_fits (Compiles.long long is same) = absurd (omega (arith, ap number is))
   table_fits (Compiles.ungrammatical short none longest is same) = absurd (omega (arith, ap number is))
   table_fits (Compiles.misnamed typed first is same) = absurd (omega (arith, ap number is))
@@ -42,13 +42,13 @@ module _ {s : List ℕ} {k : ℕ} {table table' : List ℕ} where
       let bytes = encode (table_for s k sys) in
       omega (arith, ap place is, ap (λ (l : List ℕ). length l) same, length-append bytes (drop (length bytes) table))
 
-  pub compiled_as : {r : Reply} {n : ℕ} → r ≡ Compiled n → Compiles s k table r table' → Compiles s k table (Compiled n) table'
-  compiled_as is compiles = subst (λ (x : Reply). Compiles s k table x table') is compiles
+  pub compiled_as : {r : Result ℕ CompileError} {n : ℕ} → r ≡ Ok n → Compiles s k table r table' → Compiles s k table (Ok n) table'
+  compiled_as is compiles = subst (λ (x : Result ℕ CompileError). Compiles s k table x table') is compiles
 
-  pub table_front : {n : ℕ} → Compiles s k table (Compiled n) table' → Front n table'
+  pub table_front : {n : ℕ} → Compiles s k table (Ok n) table' → Front n table'
   table_front compiles = at_front table' (table_fits compiles)
 
-  untouched : {r : Reply} → Compiles s k table r table' → (number r ≡ 0 → ⊥) → table' ≡ table
+  untouched : {r : Result ℕ CompileError} → Compiles s k table r table' → (number r ≡ 0 → ⊥) → table' ≡ table
   untouched (Compiles.long long is same) some = same
   untouched (Compiles.ungrammatical short none longest is same) some = same
   untouched (Compiles.misnamed typed first is same) some = same
@@ -58,14 +58,14 @@ module _ {s : List ℕ} {k : ℕ} {table table' : List ℕ} where
   untouched (Compiles.compiled drawable none long is same) some = absurd (some (ap number is))
 
   module _ {lines lines' : List ℕ} {m : ℕ} (room : text_room ≤ length lines) where
-    pub told_table : {n : ℕ} → Compiles s k table (Compiled n) table' → Lists (take n table') lines m lines' × Front m lines' →
+    pub told_table : {n : ℕ} → Compiles s k table (Ok n) table' → Lists (take n table') lines m lines' × Front m lines' →
         Told s k table lines n m table' lines'
     told_table compiles (lists, front) = (Tells.listed room compiles lists, (table_front compiles, front))
 
-    pub told_refusal : (reply : Reply) {a b : ℕ} → ((n : ℕ) → reply ≡ Compiled n → ⊥) → Compiles s k table reply table' → a ≡ number reply →
+    pub told_refusal : (reply : Result ℕ CompileError) {e : CompileError} {a b : ℕ} → reply ≡ Err e → Compiles s k table reply table' → a ≡ number reply →
         b ≡ place reply → Wrote lines (refused_line a b) m lines' → Told s k table lines 0 m table' lines'
-    told_refusal reply one compiles number_is place_is wrote =
-        let some = some_number reply one in (
+    told_refusal reply {e} is compiles number_is place_is wrote =
+        let some : number reply ≡ 0 → ⊥ = λ zero. some_number e (sym (ap number is) ∙ zero) in (
           Tells.refused reply room compiles some refl (untouched compiles some) (refused_as number_is place_is wrote),
           (at_front table' (omega arith), at_front lines' (wrote_fits wrote)),
         )

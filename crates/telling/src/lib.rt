@@ -7,7 +7,7 @@ ghost use Rattle.telling.specs.paper.Tells.{Tells};
 ghost use Rattle.telling.specs.paper.Argument.{digit_of};
 
 use compiling::answers::{number_of_reply, place_of_reply};
-use compiling::{Reply, compile};
+use compiling::compile;
 use listing::{TEXT_ROOM, list};
 use wording::write_refused;
 
@@ -40,14 +40,14 @@ pub fn tell(text: &[u8], k: u64, table: &mut [u8], lines: &mut [u8]) -> Lengths
     }
     let reply = compile(text, k, table);
     match reply {
-        Reply::Compiled(length) => {
+        Ok(length) => {
             let listed = list(&table[..length], lines);
             Lengths {
                 table: length,
                 lines: listed,
             }
         }
-        _ => {
+        Err(_) => {
             let number = number_of_reply(reply);
             let place = place_of_reply(reply);
             let line = write_refused(number, place, lines);

@@ -31,11 +31,10 @@ pub record OrderMade (net : Net) (order₀ marks₀ : List ℕ) (r : Result ⊤ 
   pub entries : order ≡ entries_of net r ++ drop (net.nodes - net.inputs) order₀
   pub cleared : marks ≡ cleared net.nodes marks₀
 
--- A drawing with its order, a node to walk back from, its leaves, and room for the roles.
-pub record WalkRoom (inputs nodes k : ℕ) (fanins order : List ℕ) (t : ℕ) (leaves : List ℕ) (size : ℕ) (roles : List ℕ) : Type 0 where
+-- A drawing with its order, a node to walk back from, and room for the roles.
+pub record WalkRoom (inputs nodes k : ℕ) (fanins order : List ℕ) (t : ℕ) (roles : List ℕ) : Type 0 where
   pub drawing : Arranged inputs nodes k fanins order
   pub node : t < nodes
-  pub leaves_long : size ≤ length leaves
   pub roles_long : nodes ≤ length roles
 
 -- The nodes walked, the nodes met, and no other role.

@@ -1,7 +1,6 @@
 -- One turn of the walk back, as stores into the roles, and what it is in the marks of one kind.
-use Rattle.std.specs.Prelude.{ℕ, ◌+◌, ◌≤◌, ◌≡◌, cond, List, [], ◌∷◌, length, get_or, set}
+use Rattle.std.specs.Prelude.{ℕ, ◌+◌, ◌≡◌, cond, List, [], ◌∷◌, get_or, set}
 use Rattle.storage.specs.Roles.{walked_bit, walked_in}
-use Rattle.storage.specs.Drawings.{Fed}
 use Rattle.theory.specs.Members.{is_member}
 
 -- a node is met: a leaf is walked only if it was (the root may be one), any other node is walked too
@@ -24,8 +23,3 @@ mark_open leaves marks (u ∷ us) = mark_open leaves (mark_one leaves marks u) u
 pub data Turned (us leaves : List ℕ) (v : ℕ) (roles roles' : List ℕ) : Type 0 where
   rests : (get_or (walked_in roles) v 0 ≡ 1 → ⊥) → roles' ≡ roles → Turned us leaves v roles roles'
   goes : get_or (walked_in roles) v 0 ≡ 1 → roles' ≡ meet_all leaves roles us → Turned us leaves v roles roles'
-
--- Node v can have its turn.
-pub record TurnRoom (fanins : List ℕ) (v : ℕ) (leaves : List ℕ) (size : ℕ) (roles : List ℕ) : Type 0 where
-  pub roles_room : Fed fanins v (length roles)
-  pub leaves_long : size ≤ length leaves

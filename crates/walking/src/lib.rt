@@ -7,13 +7,12 @@ mod loops;
 mod marking;
 mod sweeping;
 
-ghost use Rattle.std.specs.Prelude.{take};
 ghost use Rattle.storage.specs.Drawings.{net_in};
 ghost use Rattle.walking.specs.Promises.{OrderRoom, OrderMade, WalkRoom, WalkMade, CutRuled};
 
 use storage::lists::node_at;
 use storage::roles::WALKED;
-use storage::{CutSize, Net, Node, Numbers, fill};
+use storage::{Net, Node, Numbers, fill};
 
 // Orders the gates by sweeps, fanins first, into the first entries of `order`; `Err` names the lowest gate that reaches itself. A drawing without a loop costs its sweeps alone:
 // one where fanins have lower ids, as many as gates in a chain that is numbered backwards. Only where gates are left over is a
@@ -43,9 +42,9 @@ pub fn order_gates(
 
 // Walks back from `root` and stops at the leaves, in one pass back along the order: the roles say which nodes are walked and which
 // are met. With no leaves, the nodes met are those behind it.
-pub fn walk(net: Net, root: Node, leaves: &[u16], size: CutSize, roles: &mut [u8])
-    requires { WalkRoom net.numbers.inputs net.numbers.nodes net.numbers.k.leaves net.fanins.now net.order.now root.id leaves.now size.leaves roles.old }
-    ensures { WalkMade (net_in net.entry.numbers.inputs net.entry.numbers.nodes net.entry.fanins.now) (take size.leaves leaves.now) root.id
+pub fn walk(net: Net, root: Node, leaves: &[u16], roles: &mut [u8])
+    requires { WalkRoom net.numbers.inputs net.numbers.nodes net.numbers.k.leaves net.fanins.now net.order.now root.id roles.old }
+    ensures { WalkMade (net_in net.entry.numbers.inputs net.entry.numbers.nodes net.entry.fanins.now) leaves.now root.id
         roles.old roles.new }
 {
     let inputs = net.numbers.inputs;
@@ -54,23 +53,23 @@ pub fn walk(net: Net, root: Node, leaves: &[u16], size: CutSize, roles: &mut [u8
     let start = root.id as usize;
     roles[start] = WALKED;
     for i in (0..nodes - inputs).rev() {
-        cones::pass(net.fanins, node_at(net.order, i), leaves, size, roles);
+        cones::pass(net.fanins, node_at(net.order, i), leaves, roles);
     }
 }
 
 // Is the list of leaves a cut of the gate, with at most K leaves? The roles are left as `walk` leaves them.
-pub fn is_cut(net: Net, gate: Node, leaves: &[u16], size: CutSize, roles: &mut [u8]) -> bool
-    requires { WalkRoom net.numbers.inputs net.numbers.nodes net.numbers.k.leaves net.fanins.now net.order.now gate.id leaves.now size.leaves roles.old }
-    ensures { CutRuled (net_in net.entry.numbers.inputs net.entry.numbers.nodes net.entry.fanins.now) net.entry.numbers.k.leaves (take size.leaves leaves.now) gate.id
+pub fn is_cut(net: Net, gate: Node, leaves: &[u16], roles: &mut [u8]) -> bool
+    requires { WalkRoom net.numbers.inputs net.numbers.nodes net.numbers.k.leaves net.fanins.now net.order.now gate.id roles.old }
+    ensures { CutRuled (net_in net.entry.numbers.inputs net.entry.numbers.nodes net.entry.fanins.now) net.entry.numbers.k.leaves leaves.now gate.id
         roles.old result roles.new }
 {
-    walk(net, gate, leaves, size, roles);
-    if size.leaves == 0
-        || size.leaves > net.numbers.k.leaves
-        || !cones::is_rising(leaves, size)
-        || !cones::leaves_met(leaves, size, net.numbers.nodes, roles)
+    walk(net, gate, leaves, roles);
+    if leaves.is_empty()
+        || leaves.len() > net.numbers.k.leaves as usize
+        || !cones::is_rising(leaves)
+        || !cones::leaves_met(leaves, net.numbers.nodes, roles)
     {
         return false;
     }
-    cones::inputs_stop(leaves, size, net.numbers.inputs, roles)
+    cones::inputs_stop(leaves, net.numbers.inputs, roles)
 }

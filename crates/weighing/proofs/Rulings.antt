@@ -5,11 +5,11 @@ use native.Mathlib.Omega.{arith}
 use mathlib.Core.Path.{◌≡◌, sym, subst, ◌∙◌}
 use mathlib.Core.Bool.{Bool, true, false}
 use mathlib.Core.List.{List}
-use lib.ListN.{length, get_or, take}
+use lib.ListN.{length, get_or}
 use lib.Dec.{eqb}
 use borrow.Author.Tests.{eqb-true, eq-eqb}
 use Rattle.storage.specs.Entries.{cleared, Beyond}
-use Rattle.storage.specs.Lists.{size_at, list_at}
+use Rattle.storage.specs.Lists.{list_at}
 use Rattle.storage.specs.Drawings.{net_in, tables_in}
 use Rattle.storage.proofs.Entries.{false_not_true}
 use Rattle.storage.proofs.Clears.{cleared_beyond, cleared_used, beyond_same, beyond_then}
@@ -23,7 +23,6 @@ use Rattle.walking.specs.Promises.{WalkRoom, CutRuled}
 use Rattle.walking.proofs.Orders.{drawn_ranked}
 use Rattle.covering.specs.Cones.{ConeAsked, ConeAnswered}
 use Rattle.covering.specs.Covers.{luts_in}
-use Rattle.covering.proofs.Leaves.{leaves_from, leaves_cut, leaves_room}
 use Rattle.covering.proofs.Covered.{root_marked, marked_root}
 use Rattle.std.specs.Prelude.{⊤, Result, Ok, Err}
 use Rattle.weighing.specs.declared.luts.LutFault.{LutFault}
@@ -32,38 +31,35 @@ use Rattle.weighing.specs.PassThree.{LutKept, KeptBelow, LutsRuled, NodeRuled, L
 
 -- A root's leaves
 
-module _ {inputs nodes k : ℕ} {fanins order cuts roles : List ℕ} {v : ℕ} (asked : CutAsked inputs nodes k fanins order cuts roles v)
-    {size : ℕ} (is : size ≡ size_at cuts v) where
-  pub walk_room : WalkRoom inputs nodes k fanins order v (leaves_from cuts v) size roles
+module _ {inputs nodes k : ℕ} {fanins order cuts roles : List ℕ} {v : ℕ} (asked : CutAsked inputs nodes k fanins order cuts roles v) where
+  pub walk_room : WalkRoom inputs nodes k fanins order v roles
   walk_room =
       record {
         drawing = asked.drawing;
         node = asked.below;
-        leaves_long = leaves_room cuts v is asked.cuts_long asked.six;
         roles_long = asked.roles_long;
       }
 
-  pub cut_told : {r : Bool} {roles' : List ℕ} → CutRuled (net_in inputs nodes fanins) k (take size (leaves_from cuts v)) v roles r roles' →
+  pub cut_told : {leaves : List ℕ} → leaves ≡ list_at cuts v → {r : Bool} {roles' : List ℕ} → CutRuled (net_in inputs nodes fanins) k leaves v roles r roles' →
       CutTold inputs nodes k fanins cuts v roles r roles'
   unfolding net_in
-  cut_told ruled = record { reply = rw (leaves_cut cuts v is) at ruled.reply; rest = ruled.walk.rest }
+  cut_told lent ruled = record { reply = rw lent at ruled.reply; rest = ruled.walk.rest }
 
 -- A root's table
 
 module _ {inputs nodes k : ℕ} {fanins rows order cuts tables values : List ℕ} {v : ℕ}
-    (asked : FunctionAsked inputs nodes k fanins rows order cuts tables values v) {size : ℕ} (is : size ≡ size_at cuts v) where
-  pub cone_asked : ConeAsked inputs nodes k fanins rows order v (leaves_from cuts v) size (length values)
+    (asked : FunctionAsked inputs nodes k fanins rows order cuts tables values v) {leaves : List ℕ} (lent : leaves ≡ list_at cuts v) where
+  pub cone_asked : ConeAsked inputs nodes k fanins rows order v leaves (length values)
   cone_asked =
       record {
         drawing = asked.drawing;
         rows_long = asked.rows_long;
         gate = asked.gate;
-        leaves_long = leaves_room cuts v is asked.cuts_long asked.six;
-        cut = subst (Cut (net_in inputs nodes fanins) k v) (sym (leaves_cut cuts v is)) asked.cut;
+        cut = subst (Cut (net_in inputs nodes fanins) k v) (sym lent) asked.cut;
         values_long = asked.values_long;
       }
 
-  pub function_told : {table : ℕ} {values' : List ℕ} → ConeAnswered inputs nodes fanins rows v (leaves_from cuts v) size values table values' →
+  pub function_told : {table : ℕ} {values' : List ℕ} → ConeAnswered inputs nodes fanins rows v leaves values table values' →
       FunctionTold inputs nodes fanins rows cuts tables v values (eqb table (get_or tables v 0)) values'
   function_told {table} answered =
       record {
@@ -72,7 +68,7 @@ module _ {inputs nodes k : ℕ} {fanins rows order cuts tables values : List ℕ
       }
     where
       of_cone : ConeTable (net_in inputs nodes fanins) (tables_in rows) (list_at cuts v) v table
-      of_cone = subst (λ (cut : List ℕ). ConeTable (net_in inputs nodes fanins) (tables_in rows) cut v table) (leaves_cut cuts v is) answered.table_is
+      of_cone = subst (λ (cut : List ℕ). ConeTable (net_in inputs nodes fanins) (tables_in rows) cut v table) lent answered.table_is
 
       listed : table ≡ get_or tables v 0 → ConeTable (net_in inputs nodes fanins) (tables_in rows) (list_at cuts v) v (get_or tables v 0)
       listed same = subst (ConeTable (net_in inputs nodes fanins) (tables_in rows) (list_at cuts v) v) same of_cone

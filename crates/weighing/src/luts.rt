@@ -2,7 +2,7 @@
 ghost use Rattle.weighing.specs.PassThree.{LutsAsked, LutsAnswered, FirstJudged, NodeAsked, NodeJudged, CutAsked, CutTold, FunctionAsked, FunctionTold};
 
 use covering::cones::cone_table;
-use storage::lists::{PLACES, cut_size};
+use storage::lists::list_at;
 use storage::{Net, Node, fill};
 use walking::is_cut;
 
@@ -20,8 +20,7 @@ fn leaves_cut(net: Net, root: Node, cuts: &[u16], roles: &mut [u8]) -> bool
     ensures { CutTold net.entry.numbers.inputs net.entry.numbers.nodes net.entry.numbers.k.leaves net.entry.fanins.now cuts.now root.id
         roles.old result roles.new }
 {
-    let at = PLACES * (root.id as usize) + 1;
-    is_cut(net, root, &cuts[at..], cut_size(cuts, root), roles)
+    is_cut(net, root, list_at(cuts, root), roles)
 }
 
 // 29: is the table listed for the root that of its cone? A cone's table has no bit above its rows.
@@ -38,10 +37,8 @@ fn table_right(
     ensures { FunctionTold net.entry.numbers.inputs net.entry.numbers.nodes net.entry.fanins.now rows.now cuts.now
         tables.now root.id values.old result values.new }
 {
-    let v = root.id as usize;
-    let at = PLACES * v + 1;
-    let table = cone_table(net, rows, root, &cuts[at..], cut_size(cuts, root), values);
-    table == tables[v]
+    let table = cone_table(net, rows, root, list_at(cuts, root), values);
+    table == tables[root.id as usize]
 }
 
 // The rules of the LUT at a node, if there is one.

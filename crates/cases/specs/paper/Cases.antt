@@ -1,5 +1,5 @@
 -- What document 01 says of a small drawing, from its bytes to the lister's lines, and what it is that all of it is so.
-use Rattle.std.specs.Prelude.{ℕ, ◌+◌, ◌≤◌, ◌<◌, ◌≡◌, length, Ok, Err}
+use Rattle.std.specs.Prelude.{ℕ, ◌+◌, ◌≤◌, ◌<◌, ◌≡◌, length, Ok, Err, Result}
 use Prim.Native.String.{String}
 use mathlib.Core.List.{List, [], ◌∷◌, ◌++◌, Memᴰ}
 use Rattle.theory.specs.paper.Net.{Gate}
@@ -19,7 +19,7 @@ use Rattle.keeping.specs.paper.Mappers.{MappersSheet}
 use Rattle.keeping.specs.paper.Same.{SameButEvidence}
 use Rattle.keeping.specs.paper.Printed.{mapping_of, DepthsListed}
 use Rattle.wording.specs.paper.Text as text
-use Rattle.mapping.specs.declared.Reply.{Reply}
+use Rattle.mapping.specs.declared.MapError.{MapError}
 use Rattle.mapping.specs.paper.Maps.{Maps}
 use Rattle.mapping.specs.paper.Maps as mapper
 use Rattle.listing.specs.paper.Lists.{Listing}
@@ -90,7 +90,7 @@ pub record MapsAs (bytes : List ℕ) (table : Table) (sheet : Sheet) (size : ℕ
   pub right : Right (net_of table) (tables_of table) table.k table.outputs sheet
   pub only : (other : Sheet) → SheetOf table other → SameSheet table sheet size prints other
   pub lists : (listing : List ℕ) → Listing bytes listing → listing ≡ printed prints
-  pub replies : (before : List ℕ) (r : Reply) (after : List ℕ) → Maps bytes before r after → sheet_room ≤ length before → mapper.said r ≡ (0, size)
+  pub replies : (before : List ℕ) (r : Result ℕ MapError) (after : List ℕ) → Maps bytes before r after → sheet_room ≤ length before → mapper.said r ≡ (0, size)
 
 abbrev pub loop_at : (gate : ℕ) → Taking
 loop_at gate = Err (LoopAt (record { id = gate }))
@@ -101,7 +101,7 @@ pub record LoopsAs (bytes : List ℕ) (table : Table) (lowest : ℕ) (prints : L
   pub bounded : Bounded (net_of table) table.k
   pub loop : LowestLoop (net_of table) lowest
   pub lists : (listing : List ℕ) → Listing bytes listing → listing ≡ printed prints
-  pub replies : (before : List ℕ) (r : Reply) (after : List ℕ) → Maps bytes before r after → mapper.said r ≡ said (loop_at lowest)
+  pub replies : (before : List ℕ) (r : Result ℕ MapError) (after : List ℕ) → Maps bytes before r after → mapper.said r ≡ said (loop_at lowest)
 
 abbrev pub Comes : Case → Outcome → Type 0
 Comes c (Outcome.maps sheet size) = MapsAs c.bytes c.table sheet size c.prints

@@ -2,6 +2,7 @@
 use native.Mathlib.Omega.{arith}
 use mathlib.Core.Path.{refl}
 use Prim.Native.Nat.{◌*◌}
+use Rattle.std.proofs.lemmas.Result.{err_from_is_err_and}
 use Rattle.grammar.specs.paper.Text.{most_text}
 use Rattle.compiling.specs.paper.Compiles.{Compiles}
 use Rattle.compiling.proofs.Scans.{scanned, zeros}
@@ -21,10 +22,17 @@ read_text-requires c =
       names_empty = zeros most_text;
     }
 
+pub invariant_of-equations : goal.invariant_of-equations
+invariant_of-equations c =
+    let read = scanned (omega arith) (omega arith) (omega arith) c.in_ok-counts.ensures in
+    record { definitions_in_bounds = omega (arith, read.names_long) }
+
+pub returns-in_err-counts : goal.returns-in_err-counts
+returns-in_err-counts c =
+    let p = err_from_is_err_and c.from_residual.result c.from_residual.ensures.1 in
+    rw (p.1, p.2) (ungrammatical (omega arith) c.in_err-counts.ensures.halts)
+
 pub compile_scanned-requires : goal.compile_scanned-requires
 compile_scanned-requires c =
     scanned (omega arith) (omega arith) (omega arith)
-    c.in-Ok.ensures
-
-pub returns-in-Err : goal.returns-in-Err
-returns-in-Err c = ungrammatical (omega arith) c.in-Err.ensures.halts
+    c.in_ok-counts.ensures

@@ -2,8 +2,8 @@
 use Rattle.compiling.proofs.Outcomes.{misnamed}
 use Rattle.compiling.proofs.compile_scanned.Goals as goal
 
-pub first_misnamed-wrong-requires : goal.first_misnamed-wrong-requires
-first_misnamed-wrong-requires c =
+pub first_misnamed-requires : goal.first_misnamed-requires
+first_misnamed-requires c =
     record { made_in_bounds = c.requires.gates_long; outputs_in_bounds = c.requires.names_long; held = record { says = c.requires.says; stored = c.requires.stored } }
 
 pub compile_named-requires : goal.compile_named-requires
@@ -12,11 +12,11 @@ compile_named-requires c =
       scanned = c.requires;
       named =
           rw c.in-None.is at
-          (c.first_misnamed-wrong.ensures c.requires.says c.requires.stored);
+          (c.first_misnamed.ensures c.requires.says c.requires.stored);
     }
 
 pub returns-in-Some : goal.returns-in-Some
 returns-in-Some c =
     misnamed c.requires
     (rw c.in-Some.is at
-    (c.first_misnamed-wrong.ensures c.requires.says c.requires.stored))
+    (c.first_misnamed.ensures c.requires.says c.requires.stored))

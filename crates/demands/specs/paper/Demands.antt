@@ -1,6 +1,6 @@
 -- The three demands of the minutes, over the promises of `map` (`Maps`) and `inspect` (`Inspects`) and the words of document 01. That a reply is
 -- given at all, and the run ends, is the kit's part: both functions are proved to end with a reply that their promise allows, for all bytes.
-use Rattle.std.specs.Prelude.{ℕ, ◌≤◌, ◌<◌, ◌≡◌, ◌↔◌, List, length, take, drop, Ok, Err}
+use Rattle.std.specs.Prelude.{ℕ, ◌≤◌, ◌<◌, ◌≡◌, ◌↔◌, List, length, take, drop, Ok, Err, Result}
 use Rattle.theory.specs.paper.Net.{Gate}
 use Rattle.theory.specs.paper.Walk.{Loop, LowestLoop}
 use Rattle.theory.specs.paper.Cover.{Label}
@@ -20,7 +20,7 @@ use Rattle.sheet.specs.paper.Shape.{reading}
 use Rattle.sheet.specs.paper.Rules.{Rule, Found, FirstBroken, labels_of}
 use Rattle.keeping.specs.paper.Right.{Right}
 use Rattle.keeping.specs.paper.Same.{SameButEvidence}
-use Rattle.mapping.specs.declared.Reply.{Reply}
+use Rattle.mapping.specs.declared.MapError.{MapError}
 use Rattle.taking.specs.paper.Says.{room_number}
 use Rattle.mapping.specs.paper.Maps.{Maps, said, number, place}
 use Rattle.inspecting.specs.declared.Inspection.{Inspection}
@@ -37,7 +37,7 @@ ReadsAs s t sheet = reading (due_in s) t ≡ record { sheet = sheet; ruling = Ok
 
 -- What two replies of the mapper to one table and one buffer have in common: number and place, and the buffer, where it refuses; else the sheet
 -- but for its evidence.
-pub data SameReply (s : List ℕ) (r q : Reply) (after after' : List ℕ) : Type 0 where
+pub data SameReply (s : List ℕ) (r q : Result ℕ MapError) (after after' : List ℕ) : Type 0 where
   refusal : r ≡ q → after ≡ after' → SameReply s r q after after'
   sheets : (a b : Sheet) → number r ≡ 0 → number q ≡ 0 → SameButEvidence (sources_of s) a b → ReadsAs s (take (place r) after) a →
       ReadsAs s (take (place q) after') b → SameReply s r q after after'
@@ -52,9 +52,9 @@ pub data MapperRefuses (s before : List ℕ) : ℕ × ℕ → Type 0 where
   loop : {g : ℕ} → ReadsWhole s → LowestLoop (drawn s) g → MapperRefuses s before (loop_number, g)
   room : IsTaken s → length before < sheet_room → MapperRefuses s before (room_number, sheet_room)
 
-pub record MapperReplies (s before : List ℕ) (r : Reply) (after : List ℕ) : Type 0 where
+pub record MapperReplies (s before : List ℕ) (r : Result ℕ MapError) (after : List ℕ) : Type 0 where
   -- "one reply"
-  pub one : (q : Reply) (after' : List ℕ) → Maps s before q after' → SameReply s r q after after'
+  pub one : (q : Result ℕ MapError) (after' : List ℕ) → Maps s before q after' → SameReply s r q after after'
   -- "each exactly when its rule says", with its place
   pub refused : (x : ℕ × ℕ) → MapperRefuses s before x ↔ ((said r ≡ x) × (x.0 ≡ 0 → ⊥))
   -- "refused for the loop, and no other table is"
@@ -65,7 +65,7 @@ pub record MapperReplies (s before : List ℕ) (r : Reply) (after : List ℕ) : 
   pub rest : number r ≡ 0 → drop (place r) after ≡ drop (place r) before
 
 abbrev pub Demand1 : Type 0
-Demand1 = (s before : List ℕ) (r : Reply) (after : List ℕ) → Maps s before r after → MapperReplies s before r after
+Demand1 = (s before : List ℕ) (r : Result ℕ MapError) (after : List ℕ) → Maps s before r after → MapperReplies s before r after
 
 -- The same of a sheet. A table and a sheet are refused with this number and place: 1 to 7 as the mapper does; for a table taken, 21 to 24 and 31 for the first fault of the
 -- sheet's shape; for a sheet of sound shape, 25 to 30 for the first rule that is not kept, with the number and place of the reply that names it.
@@ -97,7 +97,7 @@ pub record SheetWritten (s after : List ℕ) (size : ℕ) : Type 0 where
   pub right : Right (drawn s) (tables_of (table_of s)) (head_k s) (roots_of s) sheet
 
 abbrev pub Demand2 : Type 0
-Demand2 = (s before : List ℕ) (r : Reply) (after : List ℕ) → Maps s before r after → number r ≡ 0 → SheetWritten s after (place r)
+Demand2 = (s before : List ℕ) (r : Result ℕ MapError) (after : List ℕ) → Maps s before r after → number r ≡ 0 → SheetWritten s after (place r)
 
 -- DEMAND 3. "For any table taken and any sheet, whoever drew it up: if the inspector accepts, the sheet's LUTs compute every output as the gates
 -- do, and no K-LUT cover of that drawing has a smaller depth."
@@ -111,7 +111,7 @@ Demand3Accepts = (s t : List ℕ) (r : Inspection) → KeepsAll s t → Inspects
 
 -- "and the mapper's own sheet is one, for each table taken with a sheet buffer of 49,152 bytes or more."
 abbrev pub Demand3Mapper : Type 0
-Demand3Mapper = (s before : List ℕ) (r : Reply) (after : List ℕ) → Maps s before r after → number r ≡ 0 → KeepsAll s (take (place r) after)
+Demand3Mapper = (s before : List ℕ) (r : Result ℕ MapError) (after : List ℕ) → Maps s before r after → number r ≡ 0 → KeepsAll s (take (place r) after)
 
 -- "no acceptable sheet is longer than 43,554", whatever bytes the inspector is given.
 abbrev pub Demand3Length : Type 0

@@ -1,7 +1,7 @@
 -- The demands on typed equations, over the promise of `compile` (`Compiles`), those of `map` and `inspect`, and the words of grammar and theory: "prove that the
 -- text is accepted exactly by the written grammar, and that the gate table gives each output its equation's value". What is compiled is a table that `map`
 -- takes, so the three demands hold of typed equations.
-use Rattle.std.specs.Prelude.{ℕ, ◌≤◌, ◌<◌, ◌≡◌, ◌↔◌, ◌⊎◌, Bool, List, length, get_or, take, drop}
+use Rattle.std.specs.Prelude.{ℕ, ◌≤◌, ◌<◌, ◌≡◌, ◌↔◌, ◌⊎◌, Bool, List, length, get_or, take, drop, Result}
 use Rattle.theory.specs.paper.Walk.{LowestLoop}
 use Rattle.theory.specs.paper.Lookup.{ObeysLuts}
 use Rattle.drawing.specs.paper.Table.{net_of, tables_of}
@@ -20,10 +20,10 @@ use Rattle.grammar.specs.paper.Gates.{table_for, InNumbers}
 use Rattle.grammar.specs.paper.Meaning.{Solves}
 use Rattle.grammar.specs.paper.Faithful.{Faithful}
 use Rattle.grammar.specs.paper.Circles.{Circular}
-use Rattle.compiling.specs.declared.Reply.{Reply}
+use Rattle.compiling.specs.declared.CompileError.{CompileError}
 use Rattle.compiling.specs.paper.Compiles.{Compiles, Typed, Drawable, table_room, said, number, place}
 use Rattle.keeping.specs.paper.Right.{Right}
-use Rattle.mapping.specs.declared.Reply as mapper
+use Rattle.mapping.specs.declared.MapError.{MapError}
 use Rattle.mapping.specs.paper.Maps as mapping
 use Rattle.mapping.specs.paper.Maps.{Maps}
 use Rattle.inspecting.specs.declared.Inspection.TheVariants.{Accepted}
@@ -41,9 +41,9 @@ pub data CompilerRefuses (s : List ℕ) (k : ℕ) (before : List ℕ) : ℕ × �
   loop : {sys : System} {g : ℕ} → Drawable s k sys → LowestLoop (net_of (table_for s k sys)) g → CompilerRefuses s k before (loop_number, g)
   room : {sys : System} → Drawable s k sys → (Circular s sys → ⊥) → length before < table_room → CompilerRefuses s k before (room_number, table_room)
 
-pub record CompilerReplies (s : List ℕ) (k : ℕ) (before : List ℕ) (r : Reply) (after : List ℕ) : Type 0 where
+pub record CompilerReplies (s : List ℕ) (k : ℕ) (before : List ℕ) (r : Result ℕ CompileError) (after : List ℕ) : Type 0 where
   -- one reply, and one buffer
-  pub one : (q : Reply) (after' : List ℕ) → Compiles s k before q after' → (r ≡ q) × (after ≡ after')
+  pub one : (q : Result ℕ CompileError) (after' : List ℕ) → Compiles s k before q after' → (r ≡ q) × (after ≡ after')
   -- each refusal exactly when it is due, with its place
   pub refused : (x : ℕ × ℕ) → CompilerRefuses s k before x ↔ ((said r ≡ x) × (x.0 ≡ 0 → ⊥))
   -- "the text is accepted exactly by the written grammar": refused for its text exactly if it has more than 8,192 bytes or is not in the grammar
@@ -76,16 +76,16 @@ pub record TableWritten (s : List ℕ) (k : ℕ) (bytes : List ℕ) : Type 0 whe
   -- "the gate table gives each output its equation's value": each setting has one solution, and the gates have its values at the outputs
   pub faithful : Faithful s says (table_for s k says)
   -- so do the LUTs that `map` writes, into a buffer that is long enough
-  pub mapped : (before : List ℕ) (q : mapper.Reply) (after : List ℕ) → Maps bytes before q after → sheet_room ≤ length before →
+  pub mapped : (before : List ℕ) (q : Result ℕ MapError) (after : List ℕ) → Maps bytes before q after → sheet_room ≤ length before →
       (mapping.number q ≡ 0) × Serves s k says (sheet_in bytes (take (mapping.place q) after))
   -- and those of every sheet that `inspect` accepts for them
   pub inspected : (sheet : List ℕ) (depth : ℕ) → Inspects bytes sheet (Accepted (record { depth = depth })) → Serves s k says (sheet_in bytes sheet)
 
-pub record EquationsAnswered (s : List ℕ) (k : ℕ) (before : List ℕ) (r : Reply) (after : List ℕ) : Type 0 where
+pub record EquationsAnswered (s : List ℕ) (k : ℕ) (before : List ℕ) (r : Result ℕ CompileError) (after : List ℕ) : Type 0 where
   pub replies : CompilerReplies s k before r after
   -- compiled, the place is the table's length, and the table stands at the buffer's front
   pub inside : number r ≡ 0 → place r ≤ length after
   pub written : number r ≡ 0 → TableWritten s k (take (place r) after)
 
 abbrev pub DemandEquations : Type 0
-DemandEquations = (s : List ℕ) (k : ℕ) (before : List ℕ) (r : Reply) (after : List ℕ) → Compiles s k before r after → EquationsAnswered s k before r after
+DemandEquations = (s : List ℕ) (k : ℕ) (before : List ℕ) (r : Result ℕ CompileError) (after : List ℕ) → Compiles s k before r after → EquationsAnswered s k before r after

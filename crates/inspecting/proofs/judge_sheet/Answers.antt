@@ -1,25 +1,23 @@
 -- `judge_sheet` meets its contract.
-use native.Mathlib.Omega.{arith}
 use mathlib.Core.Path.{sym, ◌∙◌}
 use Rattle.storage.proofs.Drawings.{drawn_span}
 use Rattle.inspecting.specs.Holding.{SheetRuled}
 use Rattle.inspecting.proofs.judge_sheet.Goals as goal
 
-pub judge_shape-requires : goal.judge_shape-requires
-judge_shape-requires c =
-    rw c.terms_for.ensures record { narrow = record { some = omega arith; few = omega arith }; inputs_le_nodes = drawn_span c.requires.drawing.drawn }
+pub terms_for-requires : goal.terms_for-requires
+terms_for-requires c = drawn_span c.requires.drawing.drawn
 
 pub judge_rules-requires : goal.judge_rules-requires
 judge_rules-requires c =
     record {
       laid = c.requires;
       sound =
-          sym (rw c.terms_for.ensures at c.judge_shape.ensures)
+          sym (rw (c.terms_for.ensures (drawn_span c.requires.drawing.drawn)) at c.judge_shape.ensures)
           ∙ c.in-Ok.is;
     }
 
 pub returns-in-Err : goal.returns-in-Err
 returns-in-Err c =
     SheetRuled.faulty
-    (sym (rw c.terms_for.ensures at c.judge_shape.ensures)
+    (sym (rw (c.terms_for.ensures (drawn_span c.requires.drawing.drawn)) at c.judge_shape.ensures)
     ∙ c.in-Err.is)

@@ -9,18 +9,18 @@ returns-then-luts-v-ne1 c =
     no_table a.net.numbers.inputs a.net.numbers.nodes a.net.fanins.now a.rows.now a.cuts.now
     a.luts.now a.gate.id a.words.now (λ root. c.if-luts-v-ne1.true (omega (arith, root)))
 
-pub cut_size-requires : goal.cut_size-requires
-cut_size-requires c =
+pub list_at-requires : goal.list_at-requires
+list_at-requires c =
     let args = c.args in
     let p = c.requires in
-    record { id_in_bounds = omega (arith, p.low, p.arrays.cuts_long); id_bound = p.arrays.six args.gate.id p.low }
+    record { id_in_bounds = omega (arith, p.low, p.arrays.cuts_long); size_bound = p.arrays.six args.gate.id p.low }
 
 pub cone_table-requires : goal.cone_table-requires
 cone_table-requires c =
     let pre = c.requires in
-    cone_asked pre (omega (arith, c.if-luts-v-ne1.false)) c.cut_size.ensures
+    cone_asked pre (omega (arith, c.if-luts-v-ne1.false)) c.list_at.ensures
 
 pub returns : goal.returns
 returns c =
     let pre = c.requires in
-    cone_answered pre (omega (arith, c.if-luts-v-ne1.false)) c.cut_size.ensures c.cone_table.ensures
+    cone_answered pre (omega (arith, c.if-luts-v-ne1.false)) c.list_at.ensures c.cone_table.ensures

@@ -3,14 +3,14 @@ use Rattle.wording.proofs.Filled.{at_front, wrote_fits}
 use Rattle.printing.proofs.Replies.{drew_sheet, drew_line}
 use Rattle.printing.proofs.draw_up.Goals as goal
 
-pub returns-in-Mapped-clause-draws : goal.returns-in-Mapped-clause-draws
-returns-in-Mapped-clause-draws c = drew_sheet c.if-text-lt-LINE_ROOM.false c.map-reply.ensures c.in-Mapped.is
+pub returns-in-Ok-clause-draws : goal.returns-in-Ok-clause-draws
+returns-in-Ok-clause-draws c = drew_sheet c.if-text-lt-LINE_ROOM.false c.map-reply.ensures c.in-Ok.is
 
-pub returns-in_default : goal.returns-in_default
-returns-in_default c =
+pub returns-in-Err : goal.returns-in-Err
+returns-in-Err c =
     let wrote = c.write_refused.ensures in
     record {
-      draws = drew_line c.if-text-lt-LINE_ROOM.false c.map-reply.ensures c.in_default.not-Mapped c.number_of_reply.ensures c.place_of_reply.ensures wrote;
+      draws = drew_line c.if-text-lt-LINE_ROOM.false c.map-reply.ensures c.in-Err.is c.number_of_reply.ensures c.place_of_reply.ensures wrote;
       front = tt;
       front_2 = at_front _ (wrote_fits wrote);
     }

@@ -10,7 +10,8 @@ use Rattle.shaping.proofs.load_sheet.Goals as goal
 pub label_at-requires : goal.label_at-requires
 label_at-requires c =
     let a = c.args in
-    let due = due_of a.terms in record { narrow = c.requires.loadable.narrow; width_in_bounds = omega (arith, head_inside due a.sheet.now (whole due a.sheet.now c.requires.loadable.sound).head) }
+    let due = due_of a.terms in
+    omega (arith, head_inside due a.sheet.now (whole due a.sheet.now c.requires.loadable.sound).head)
 
 pub returns : goal.returns
 returns c =

@@ -7,19 +7,19 @@ returns-then-lines-lt-TEXT_ROOM c = let asked = told_nothing c.if-lines-lt-TEXT_
 
 pub slice_bounds-list-end : goal.slice_bounds-list-end
 slice_bounds-list-end c =
-    (table_front (compiled_as c.in-Compiled.is c.compile-reply.ensures)).0
+    (table_front (compiled_as c.in-Ok.is c.compile-reply.ensures)).0
 
-pub slice_bounds-list-end-in-Compiled : goal.slice_bounds-list-end-in-Compiled
-slice_bounds-list-end-in-Compiled c =
-    (table_front (compiled_as c.in-Compiled.is c.compile-reply.ensures)).1
+pub slice_bounds-list-end-in-Ok : goal.slice_bounds-list-end-in-Ok
+slice_bounds-list-end-in-Ok c =
+    (table_front (compiled_as c.in-Ok.is c.compile-reply.ensures)).1
 
-pub returns-in-Compiled : goal.returns-in-Compiled
-returns-in-Compiled c = let asked =
-    told_table c.if-lines-lt-TEXT_ROOM.false (compiled_as c.in-Compiled.is c.compile-reply.ensures)
+pub returns-in-Ok : goal.returns-in-Ok
+returns-in-Ok c = let asked =
+    told_table c.if-lines-lt-TEXT_ROOM.false (compiled_as c.in-Ok.is c.compile-reply.ensures)
     (c.list-listed.ensures.lists, c.list-listed.ensures.front) in record { tells = asked.0; front = asked.1.0; front_2 = asked.1.1 }
 
-pub returns-in_default : goal.returns-in_default
-returns-in_default c = let asked =
-    told_refusal c.if-lines-lt-TEXT_ROOM.false c.compile-reply.result c.in_default.not-Compiled
+pub returns-in-Err : goal.returns-in-Err
+returns-in-Err c = let asked =
+    told_refusal c.if-lines-lt-TEXT_ROOM.false c.compile-reply.result c.in-Err.is
     c.compile-reply.ensures c.number_of_reply-number.ensures
     c.place_of_reply-place.ensures c.write_refused-line.ensures in record { tells = asked.0; front = asked.1.0; front_2 = asked.1.1 }

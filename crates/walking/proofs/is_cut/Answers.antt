@@ -1,24 +1,25 @@
 -- `is_cut` meets its contract: each test that fails names a part of a cut that does not hold.
 use native.Mathlib.Omega.{arith}
+use Rattle.std.proofs.Common.{rules}
 use Rattle.storage.proofs.Drawings.{drawn_span}
 use Rattle.storage.proofs.InMarks.{tells_no}
-use Rattle.walking.proofs.WalkLoops.{cut_some, cut_met, cut_stops, cut_whole}
+use Rattle.walking.proofs.WalkLoops.{cut_met, cut_stops, cut_whole}
 use Rattle.walking.proofs.is_cut.Goals as goal
-use Rattle.walking.proofs.is_cut.Goals.{then-size-eq0-via-then-size-eq0, then-size-eq0-via-else-size-eq0+then-size-net}
-use Rattle.walking.proofs.is_cut.Goals.{then-size-eq0-via-else-size-eq0+else-size-net+then-not-is_rising}
-use Rattle.walking.proofs.is_cut.Goals.{then-size-eq0-via-else-size-eq0+else-size-net+else-not-is_rising+then-not-leaves_met}
+use Rattle.walking.proofs.is_cut.Goals.{then-is_empty-via-then-is_empty, then-is_empty-via-else-is_empty+then-leaves-net}
+use Rattle.walking.proofs.is_cut.Goals.{then-is_empty-via-else-is_empty+else-leaves-net+then-not-is_rising}
+use Rattle.walking.proofs.is_cut.Goals.{then-is_empty-via-else-is_empty+else-leaves-net+else-not-is_rising+then-not-leaves_met}
 
-pub returns-then-size-eq0 : goal.returns-then-size-eq0
-returns-then-size-eq0 c =
+pub returns-then-is_empty : goal.returns-then-is_empty
+returns-then-is_empty c =
     let made = c.walk.ensures in
     record {
       reply = tells_no (λ cut.
-          elim c.then-size-eq0.branch [
-            | then-size-eq0-via-then-size-eq0 w ↦ omega (arith, w.if-size-eq0.true, (cut_some c.requires made cut).0)
-            | then-size-eq0-via-else-size-eq0+then-size-net w ↦ omega (arith, w.if-size-net.true, (cut_some c.requires made cut).1)
-            | then-size-eq0-via-else-size-eq0+else-size-net+then-not-is_rising w ↦
+          elim c.then-is_empty.branch [
+            | then-is_empty-via-then-is_empty w ↦ let some = cut.some in search (w.if-is_empty.true, c.is_empty.ensures, some, rules, arith)
+            | then-is_empty-via-else-is_empty+then-leaves-net w ↦ omega (arith, w.if-leaves-net.true, cut.few)
+            | then-is_empty-via-else-is_empty+else-leaves-net+then-not-is_rising w ↦
                 w.is_rising.ensures.no w.if-not-is_rising.true cut.rising
-            | then-size-eq0-via-else-size-eq0+else-size-net+else-not-is_rising+then-not-leaves_met w ↦
+            | then-is_empty-via-else-is_empty+else-leaves-net+else-not-is_rising+then-not-leaves_met w ↦
                 w.leaves_met.ensures.no w.if-not-leaves_met.true (cut_met c.requires made cut)
           ]);
       walk = made;
@@ -29,7 +30,6 @@ inputs_stop-requires c =
     let p = c.requires in
     let span = drawn_span p.drawing.drawn in
     record {
-      leaves_in_bounds = p.leaves_long;
       inputs_in_bounds = omega (arith, p.roles_long, c.walk.ensures.rest.size);
       inputs_bound = omega (arith, p.drawing.small);
     }
@@ -45,7 +45,7 @@ returns c =
       reply = record {
         yes =
             λ e.
-            cut_whole p made (omega (arith, c.if-size-eq0.false)) (omega (arith, c.if-size-net.false)) rising met
+            cut_whole p made (search (c.if-is_empty.false, c.is_empty.ensures, rules, arith)) (omega (arith, c.if-leaves-net.false)) rising met
             (stop.yes e);
         no = λ e cut. stop.no e (cut_stops p made cut);
       };

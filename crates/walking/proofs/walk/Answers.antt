@@ -16,7 +16,7 @@ loop-i-init c =
 pub pass-requires : goal.pass-requires
 pass-requires c = let asked =
     turn_room c.requires c.fill.ensures refl c.loop-i.invariant.1
-    c.loop-i-test.true c.loop-i.invariant.0 c.node_at.ensures in record { turn_room = asked.0; id_in_bounds = asked.1.0; id_bound = asked.1.1 }
+    c.loop-i-test.true c.loop-i.invariant.0 c.node_at.ensures in record { fanins_in_bounds = asked.0; id_in_bounds = asked.1.0; id_bound = asked.1.1 }
 
 pub loop-i-preserved : goal.loop-i-preserved
 loop-i-preserved c =

@@ -12,17 +12,17 @@ use Rattle.compiling.proofs.tables.write_gate.Goals as goal
 
 pub operand_node-left-requires : goal.operand_node-left-requires
 operand_node-left-requires c =
-    record { definitions_in_bounds = c.requires.names_long; operand_bound = omega (arith, c.requires.left_low, c.left_at.ensures) }
+    omega (arith, c.requires.left_low, c.left_at.ensures)
 
 pub operand_node-right-requires : goal.operand_node-right-requires
 operand_node-right-requires c =
-    record { definitions_in_bounds = c.requires.names_long; operand_bound = omega (arith, c.requires.right_low, c.right_at.ensures) }
+    omega (arith, c.requires.right_low, c.right_at.ensures)
 
 pub put_gate-requires : goal.put_gate-requires
 put_gate-requires c =
-    let three = three_in c.args.gates.now c.args.gate in
-    let node = node_named c.args.text.now c.args.names.now c.args.definitions in
-    let same = same_line node c.args.inputs three c.left_at.result
+    let three = three_in c.args.equations.gates.now c.args.gate in
+    let node = node_named c.args.equations.text.now c.args.equations.names.now c.args.equations.counts.definitions in
+    let same = same_line node c.args.equations.counts.inputs three c.left_at.result
     c.right_at.result c.operand_node-left.ensures c.left_at.ensures
     c.operand_node-right.ensures c.right_at.ensures
     c.table_at-rows.ensures in
@@ -31,9 +31,9 @@ put_gate-requires c =
 
 pub returns : goal.returns
 returns c =
-    let three = three_in c.args.gates.now c.args.gate in
-    let node = node_named c.args.text.now c.args.names.now c.args.definitions in
-    let same = same_line node c.args.inputs three c.left_at.result
+    let three = three_in c.args.equations.gates.now c.args.gate in
+    let node = node_named c.args.equations.text.now c.args.equations.names.now c.args.equations.counts.definitions in
+    let same = same_line node c.args.equations.counts.inputs three c.left_at.result
     c.right_at.result c.operand_node-left.ensures c.left_at.ensures
     c.operand_node-right.ensures c.right_at.ensures
     c.table_at-rows.ensures in

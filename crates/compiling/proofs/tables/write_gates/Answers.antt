@@ -17,7 +17,7 @@ write_gate-at-requires c =
     let before = c.args.table.now in
     let head = head_written c.requires.ready before c.requires.table_room_in_bounds c.put_table_head-at.ensures in
     gate_asked c.requires.ready before c.requires.table_room_in_bounds c.loop-gate-test.true
-    (c.loop-gate.invariant.written c.args.k.leaves c.args.counts.outputs c.requires.ready before
+    (c.loop-gate.invariant.written c.args.k.leaves c.requires.ready before
     c.requires.table_room_in_bounds head)
 
 pub loop-gate-preserved : goal.loop-gate-preserved
@@ -33,5 +33,5 @@ returns c =
     λ ready. let before = c.args.table.now in
     let head = head_written ready before c.requires.table_room_in_bounds c.put_table_head-at.ensures in
     gates_written ready before c.requires.table_room_in_bounds c.loop-gate.gate (omega arith)
-    (c.loop-gate.invariant.written c.args.k.leaves c.args.counts.outputs ready before
+    (c.loop-gate.invariant.written c.args.k.leaves ready before
     c.requires.table_room_in_bounds head)

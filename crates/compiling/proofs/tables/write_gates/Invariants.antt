@@ -4,4 +4,4 @@ use Rattle.compiling.proofs.TablesWritten.{GatesSofar}
 use Rattle.compiling.proofs.tables.write_gates.Given as goal
 
 abbrev pub invariant-loop-gate : goal.invariant-loop-gate
-invariant-loop-gate l = GatesSofar l.text l.gates l.names l.initial.table l.inputs l.made l.definitions l.initial.at l.table l.at l.gate
+invariant-loop-gate l = GatesSofar l.equations.text.now l.equations.gates.now l.equations.names.now l.initial.table l.equations.counts l.initial.at l.table l.at l.gate

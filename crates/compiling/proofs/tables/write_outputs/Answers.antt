@@ -8,8 +8,8 @@ use Rattle.compiling.proofs.tables.write_outputs.Goals as goal
 pub loop-i-init : goal.loop-i-init
 loop-i-init c = outputs_sofar_none
 
-pub overflow_add-definitions : goal.overflow_add-definitions
-overflow_add-definitions c =
+pub overflow_add-counts : goal.overflow_add-counts
+overflow_add-counts c =
     let long = c.requires.ready.right.scanned.names_long in
     omega arith
 
@@ -27,17 +27,16 @@ pub put_output-at-requires : goal.put_output-at-requires
 put_output-at-requires c =
     let asked = c.requires in
     let found = ap
-    (node_named c.args.text.now c.args.names.now c.args.counts.definitions)
+    (node_named c.args.equations.text.now c.args.equations.names.now c.args.equations.counts.definitions)
     c.place_at.ensures in
     output_fits asked.ready asked.before asked.room c.loop-i-test.true
-    (c.loop-i.invariant.written asked.k c.args.counts.inputs c.args.counts.gates
-    asked.gates asked.ready asked.before asked.room asked.written)
+    (c.loop-i.invariant.written asked.k asked.gates asked.ready asked.before asked.room asked.written)
     (c.node_of-node.ensures ∙ found)
 
 pub loop-i-preserved : goal.loop-i-preserved
 loop-i-preserved c =
     let found = ap
-    (node_named c.args.text.now c.args.names.now c.args.counts.definitions)
+    (node_named c.args.equations.text.now c.args.equations.names.now c.args.equations.counts.definitions)
     c.place_at.ensures in
     outputs_sofar_more c.loop-i.invariant c.loop-i-test.true (c.node_of-node.ensures ∙ found)
     c.put_output-at.ensures
@@ -49,5 +48,4 @@ pub returns : goal.returns
 returns c =
     λ asked.
     outputs_written asked.ready asked.before asked.room c.loop-i.i (omega arith)
-    (c.loop-i.invariant.written asked.k c.args.counts.inputs c.args.counts.gates
-    asked.gates asked.ready asked.before asked.room asked.written)
+    (c.loop-i.invariant.written asked.k asked.gates asked.ready asked.before asked.room asked.written)

@@ -6,7 +6,7 @@ pub write_outputs-requires : goal.write_outputs-requires
 write_outputs-requires c =
     record {
       k = c.args.k.leaves;
-      gates = c.args.gates.now;
+      gates = c.args.equations.gates.now;
       ready = c.requires.ready;
       before = c.args.table.now;
       room = c.requires.table_room_in_bounds;
@@ -19,7 +19,7 @@ returns c =
     c.write_outputs.ensures
     (record {
       k = c.args.k.leaves;
-      gates = c.args.gates.now;
+      gates = c.args.equations.gates.now;
       ready = ready;
       before = c.args.table.now;
       room = c.requires.table_room_in_bounds;

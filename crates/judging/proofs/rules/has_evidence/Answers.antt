@@ -4,9 +4,8 @@ use Rattle.judging.proofs.rules.has_evidence.Goals as goal
 
 pub walk-requires : goal.walk-requires
 walk-requires c =
-    let a = c.args in
     let asked = c.requires in
-    walk_asked asked a.labels.now
+    walk_asked asked
 
 pub mark_area-requires : goal.mark_area-requires
 mark_area-requires c =

@@ -4,7 +4,7 @@ use Rattle.labelling.proofs.probing.probe_gate.Goals as goal
 
 pub walk-requires : goal.walk-requires
 walk-requires c =
-    walk_room c.requires c.args.labels.now
+    walk_room c.requires
 
 pub mark_area-requires : goal.mark_area-requires
 mark_area-requires c =

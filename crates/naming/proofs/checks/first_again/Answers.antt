@@ -16,6 +16,6 @@ loop-i-preserved c =
 pub returns : goal.returns
 returns c =
     let l = c.loop-i in
-    let a = c.args in
-    let all : l.i ≡ a.definitions = omega arith in
+    let a = c.args.equations in
+    let all : l.i ≡ a.counts.definitions = omega arith in
     subst (λ (n : ℕ). LeastOf (OneBelow n (AgainAt a.text.now a.names.now)) l.best) all l.invariant

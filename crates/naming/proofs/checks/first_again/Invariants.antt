@@ -3,4 +3,4 @@ use Rattle.naming.specs.Wrongs.{LeastOf, OneBelow, AgainAt}
 use Rattle.naming.proofs.checks.first_again.Given as goal
 
 abbrev pub invariant-loop-i : goal.invariant-loop-i
-invariant-loop-i l = LeastOf (OneBelow l.i (AgainAt l.text l.names)) l.best
+invariant-loop-i l = LeastOf (OneBelow l.i (AgainAt l.equations.text.now l.equations.names.now)) l.best

@@ -9,9 +9,6 @@ use Rattle.naming.proofs.checks.first_undefined_operand.Goals as goal
 pub loop-gate-init : goal.loop-gate-init
 loop-gate-init c = least_none
 
-pub undefined_in_gate-requires : goal.undefined_in_gate-requires
-undefined_in_gate-requires c = record { gate_in_bounds = omega arith; definitions_in_bounds = omega arith }
-
 pub loop-gate-preserved : goal.loop-gate-preserved
 loop-gate-preserved c =
     rw c.earlier-best.ensures (least_more c.loop-gate.invariant c.undefined_in_gate.ensures)
@@ -19,9 +16,9 @@ loop-gate-preserved c =
 pub returns : goal.returns
 returns c =
     let l = c.loop-gate in
-    let a = c.args in
-    let all : l.gate ≡ a.made = omega arith in
+    let a = c.args.equations in
+    let all : l.gate ≡ a.counts.gates = omega arith in
     subst
     (λ (n : ℕ).
-    LeastOf (OneBelow n (UndefinedInGate a.text.now a.names.now a.definitions a.gates.now)) l.best)
+    LeastOf (OneBelow n (UndefinedInGate a.text.now a.names.now a.counts.definitions a.gates.now)) l.best)
     all l.invariant

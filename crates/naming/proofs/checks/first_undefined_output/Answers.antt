@@ -17,8 +17,8 @@ loop-i-preserved c =
 pub returns : goal.returns
 returns c =
     let l = c.loop-i in
-    let a = c.args in
-    let all : l.i ≡ a.outputs = omega arith in
+    let a = c.args.equations in
+    let all : l.i ≡ a.counts.outputs = omega arith in
     subst
-    (λ (n : ℕ). LeastOf (OneBelow n (UndefinedOutput a.text.now a.names.now a.definitions)) l.best) all
+    (λ (n : ℕ). LeastOf (OneBelow n (UndefinedOutput a.text.now a.names.now a.counts.definitions)) l.best) all
     l.invariant

@@ -3,4 +3,4 @@ use Rattle.naming.specs.Wrongs.{LeastOf, OneBelow, UndefinedOutput}
 use Rattle.naming.proofs.checks.first_undefined_output.Given as goal
 
 abbrev pub invariant-loop-i : goal.invariant-loop-i
-invariant-loop-i l = LeastOf (OneBelow l.i (UndefinedOutput l.text l.names l.definitions)) l.best
+invariant-loop-i l = LeastOf (OneBelow l.i (UndefinedOutput l.equations.text.now l.equations.names.now l.equations.counts.definitions)) l.best

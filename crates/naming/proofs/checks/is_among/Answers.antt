@@ -15,9 +15,9 @@ loop-i-init c = λ k low. absurd (omega arith)
 pub returns-then-is_word_at : goal.returns-then-is_word_at
 returns-then-is_word_at c =
     let a = c.args in
-    let s = a.text.now in
+    let s = a.equations.text.now in
     let i = c.loop-i.i in
-    let here : place_in a.names.now i ≡ c.place_at.result =
+    let here : place_in a.equations.names.now i ≡ c.place_at.result =
     sym c.place_at.ensures in
     let test : same_word (word_at s c.place_at.result) (word_at s a.place) ≡ true =
     same_turned (word_at s c.place_at.result) (word_at s a.place) ∙ sym c.is_word_at.ensures ∙ c.if-is_word_at.true in
@@ -34,8 +34,8 @@ returns-then-is_word_at c =
 pub loop-i-preserved : goal.loop-i-preserved
 loop-i-preserved c =
     let a = c.args in
-    let s = a.text.now in
-    let here : c.place_at.result ≡ place_in a.names.now c.loop-i.i =
+    let s = a.equations.text.now in
+    let here : c.place_at.result ≡ place_in a.equations.names.now c.loop-i.i =
     c.place_at.ensures in
     let test : same_word (word_at s c.place_at.result) (word_at s a.place) ≡ false =
     same_turned (word_at s c.place_at.result) (word_at s a.place) ∙ sym c.is_word_at.ensures ∙ c.if-is_word_at.false in

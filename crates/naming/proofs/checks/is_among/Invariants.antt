@@ -6,4 +6,4 @@ use Rattle.naming.specs.Stored.{place_in}
 use Rattle.naming.proofs.checks.is_among.Given as goal
 
 abbrev pub invariant-loop-i : goal.invariant-loop-i
-invariant-loop-i l = (k : ℕ) → k < l.i → word_at l.text (place_in l.names k) ≡ word_at l.text l.place → ⊥
+invariant-loop-i l = (k : ℕ) → k < l.i → word_at l.equations.text.now (place_in l.equations.names.now k) ≡ word_at l.equations.text.now l.place → ⊥

@@ -8,7 +8,7 @@ use Rattle.naming.proofs.checks.undefined_in_gate.Goals as goal
 pub returns-then-left-right : goal.returns-then-left-right
 returns-then-left-right c =
     let first = rw c.left_at-left.ensures at c.undefined_operand-first.ensures in
-    least_twice (UndefinedOperand c.args.text.now c.args.names.now c.args.definitions)
+    least_twice (UndefinedOperand c.args.equations.text.now c.args.equations.names.now c.args.equations.counts.definitions)
     (sym c.left_at-left.ensures ∙ c.if-left-right.true ∙ c.right_at-right.ensures) first
 
 -- src/checks.rt:80:1

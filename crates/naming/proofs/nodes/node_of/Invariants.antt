@@ -7,5 +7,5 @@ use Rattle.naming.proofs.nodes.node_of.Given as goal
 
 abbrev pub invariant-loop-i : goal.invariant-loop-i
 invariant-loop-i l =
-    node_from l.text l.names 0 l.definitions (word_at l.text l.place)
-    ≡ node_from l.text l.names l.i (l.definitions - l.i) (word_at l.text l.place)
+    node_from l.equations.text.now l.equations.names.now 0 l.equations.counts.definitions (word_at l.equations.text.now l.place)
+    ≡ node_from l.equations.text.now l.equations.names.now l.i (l.equations.counts.definitions - l.i) (word_at l.equations.text.now l.place)

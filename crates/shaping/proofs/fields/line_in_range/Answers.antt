@@ -17,14 +17,12 @@ returns-then-not-is_path_count c =
 pub paths_in_range-requires : goal.paths_in_range-requires
 paths_in_range-requires c =
     let due = due_of c.args.terms in
-    let s = c.args.sheet.now in record {
-      narrow = c.requires.narrow;
-      count_in_bounds = omega (
-        arith,
-        paths_end_lem due s c.args.at c.size_at-leaves.ensures c.small_at-count.ensures
-            (line_parts due s c.args.at c.requires.at_value),
-      );
-    }
+    let s = c.args.sheet.now in
+    omega (
+      arith,
+      paths_end_lem due s c.args.at c.size_at-leaves.ensures c.small_at-count.ensures
+          (line_parts due s c.args.at c.requires.at_value),
+    )
 
 pub returns : goal.returns
 returns c =

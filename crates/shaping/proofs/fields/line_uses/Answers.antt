@@ -12,15 +12,15 @@ returns-then-size-width c =
 
 pub overflow_mul-before : goal.overflow_mul-before
 overflow_mul-before c =
-    omega (arith, twice c.size_at-leaves.result.leaves c.requires.narrow, c.size_at-leaves.ensures.fits)
+    omega (arith, twice c.size_at-leaves.result.leaves c.args.terms.narrow, c.size_at-leaves.ensures.fits)
 
 pub overflow_add-before-2 : goal.overflow_add-before-2
 overflow_add-before-2 c =
-    omega (arith, twice c.size_at-leaves.result.leaves c.requires.narrow, c.size_at-leaves.ensures.fits)
+    omega (arith, twice c.size_at-leaves.result.leaves c.args.terms.narrow, c.size_at-leaves.ensures.fits)
 
 pub overflow_add-before-3 : goal.overflow_add-before-3
 overflow_add-before-3 c =
-    omega (arith, twice c.size_at-leaves.result.leaves c.requires.narrow, c.size_at-leaves.ensures.fits)
+    omega (arith, twice c.size_at-leaves.result.leaves c.args.terms.narrow, c.size_at-leaves.ensures.fits)
 
 pub returns-then-size-before : goal.returns-then-size-before
 returns-then-size-before c =
@@ -32,7 +32,7 @@ small_at-count-requires c = record { narrow = narrow_one; width_in_bounds = omeg
 
 pub paths_use-requires : goal.paths_use-requires
 paths_use-requires c =
-    record { narrow = c.requires.narrow; at_le_end = omega arith; end_in_bounds = omega arith }
+    record { at_le_end = omega arith; end_in_bounds = omega arith }
 
 pub returns : goal.returns
 returns c =

@@ -22,7 +22,7 @@ pub put_line-requires : goal.put_line-requires
 put_line-requires c =
     let all = whole (due_of c.args.terms) c.args.sheet.now c.requires.loadable.sound in record {
       line_ready = gate_ready c.loop-v.invariant all (omega (arith, c.if-v-terms.false)) c.loop-v-test.true
-          c.requires.loadable.narrow c.requires.loadable.short;
+          c.requires.loadable.short;
       line_room = lines_room (c.loop-v.v + 1) (omega (arith, c.loop-v-test.true)) c.requires.line_room c.loop-v.invariant.filled;
     }
 
@@ -38,7 +38,7 @@ loop-v-preserved c =
     elim c.if-v-terms.branch [
       | then-v-terms w ↦
           rw (w.labels-is, w.cuts-is, w.places-is, w.at-is)
-          (input_more so_far c.requires.loadable.gates w.if-v-terms.true c.requires.line_room w.put_no_line.ensures)
+          (input_more so_far c.args.terms.inputs_in w.if-v-terms.true c.requires.line_room w.put_no_line.ensures)
       | else-v-terms w ↦
           rw (w.labels-is, w.cuts-is, w.places-is, w.at-is)
           (gate_more so_far all w.if-v-terms.false c.loop-v-test.true c.requires.line_room w.put_line.ensures

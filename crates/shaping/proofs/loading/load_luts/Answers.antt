@@ -13,7 +13,7 @@ use Rattle.shaping.proofs.loading.load_luts.Goals as goal
 pub small_at-requires : goal.small_at-requires
 small_at-requires c =
     record {
-      narrow = c.requires.loadable.narrow;
+      narrow = c.args.terms.narrow;
       width_in_bounds = omega (
         arith,
         head_inside (due_of c.args.terms) c.args.sheet.now
@@ -34,7 +34,6 @@ loop-v-init c =
 pub next_root-requires : goal.next_root-requires
 next_root-requires c =
     record {
-      narrow = c.requires.loadable.narrow;
       nodes = c.requires.loadable.nodes;
       inside = next_inside (due_of c.args.terms) c.args.sheet.now c.loop-v.invariant.left;
     }
@@ -44,13 +43,10 @@ put_lut-requires c =
     let due = due_of c.args.terms in
     let s = c.args.sheet.now in
     let l = c.loop-v.invariant.left in record {
-      lut_ready = record {
-        narrow = c.requires.loadable.narrow;
-        whole =
-            lut_whole due s l.least c.loop-v.turn.at
-            (ruled_here due s l c.next_root.ensures (omega (arith, c.if-next_root-node.false))
-            c.loop-v-test.true);
-      };
+      whole =
+          lut_whole due s l.least c.loop-v.turn.at
+          (ruled_here due s l c.next_root.ensures (omega (arith, c.if-next_root-node.false))
+          c.loop-v-test.true);
       lut_room = luts_room (c.loop-v.v + 1) (omega (arith, c.loop-v-test.true)) c.requires.lut_room
           c.loop-v.invariant.filled;
     }

@@ -11,17 +11,17 @@ returns-then-node-before c =
     let i = c.loop-i.i in
     sym
     (c.loop-i.invariant
-    ∙ rise_stop a.sheet.now c.loop-i.before.id (a.at + i * a.width) a.width (a.count - i) (omega arith) c.node_at-node.ensures (omega arith))
+    ∙ rise_stop a.sheet.now c.loop-i.before.id (a.at + i * a.terms.form.width) a.terms.form.width (a.count - i) (omega arith) c.node_at-node.ensures (omega arith))
 
 pub loop-i-preserved : goal.loop-i-preserved
 loop-i-preserved c =
     let a = c.args in
     let i = c.loop-i.i in
     c.loop-i.invariant
-    ∙ rise_next a.sheet.now c.loop-i.before.id a.at a.width a.count i (omega arith) c.node_at-node.ensures (omega arith)
+    ∙ rise_next a.sheet.now c.loop-i.before.id a.at a.terms.form.width a.count i (omega arith) c.node_at-node.ensures (omega arith)
 
 pub returns : goal.returns
 returns c =
     let a = c.args in
     let i = c.loop-i.i in
-    sym (c.loop-i.invariant ∙ rise_none a.sheet.now c.loop-i.before.id (a.at + i * a.width) a.width (a.count - i) (omega arith))
+    sym (c.loop-i.invariant ∙ rise_none a.sheet.now c.loop-i.before.id (a.at + i * a.terms.form.width) a.terms.form.width (a.count - i) (omega arith))

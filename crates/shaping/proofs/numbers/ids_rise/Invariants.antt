@@ -8,4 +8,4 @@ use Rattle.shaping.proofs.numbers.ids_rise.Given as goal
 
 abbrev pub invariant-loop-i : goal.invariant-loop-i
 invariant-loop-i l =
-    rising (ids_at l.sheet l.at l.width l.count) ≡ rising (l.before.id ∷ ids_at l.sheet (l.at + l.i * l.width) l.width (l.count - l.i))
+    rising (ids_at l.sheet l.at l.terms.form.width l.count) ≡ rising (l.before.id ∷ ids_at l.sheet (l.at + l.i * l.terms.form.width) l.terms.form.width (l.count - l.i))

@@ -8,4 +8,4 @@ use Rattle.shaping.proofs.paths.paths_in_range.Given as goal
 
 abbrev pub invariant-loop : goal.invariant-loop
 invariant-loop l = (paths_end l.sheet l.next l.width (l.count - l.counter) ≤ length l.sheet)
-    × (out_of_range l.sheet l.width l.nodes l.at l.count ≡ out_of_range l.sheet l.width l.nodes l.next (l.count - l.counter))
+    × (out_of_range l.sheet l.width l.terms.numbers.nodes l.at l.count ≡ out_of_range l.sheet l.width l.terms.numbers.nodes l.next (l.count - l.counter))

@@ -10,14 +10,14 @@ pub returns-then-end-next : goal.returns-then-end-next
 returns-then-end-next c =
     sym
     (c.loop.invariant.1
-    ∙ use_torn c.args.sheet.now c.args.width c.loop.next
+    ∙ use_torn c.args.sheet.now c.args.terms.form.width c.loop.next
     (c.args.count - c.loop.counter) c.args.end (omega arith) (omega arith))
 
 pub returns-then-end-next-2 : goal.returns-then-end-next-2
 returns-then-end-next-2 c =
     sym
     (c.loop.invariant.1
-    ∙ use_past c.args.sheet.now c.args.width c.loop.next (c.args.count - c.loop.counter)
+    ∙ use_past c.args.sheet.now c.args.terms.form.width c.loop.next (c.args.count - c.loop.counter)
     c.args.end c.small_at.ensures (omega arith) (omega arith) (omega arith))
 
 pub loop-preserved : goal.loop-preserved
@@ -25,14 +25,14 @@ loop-preserved c =
     let fewer : c.args.count - c.loop.counter - 1 ≡ c.args.count - (c.loop.counter + 1) = omega arith in (
       omega arith,
       c.loop.invariant.1
-          ∙ use_next c.args.sheet.now c.args.width c.loop.next (c.args.count - c.loop.counter)
+          ∙ use_next c.args.sheet.now c.args.terms.form.width c.loop.next (c.args.count - c.loop.counter)
           c.args.end c.small_at.ensures (omega arith) (omega arith)
-          ∙ ap (λ (n : ℕ). paths_use c.args.sheet.now (c.loop.next + (c.args.width + c.small_at.result * c.args.width)) c.args.width n c.args.end) fewer,
+          ∙ ap (λ (n : ℕ). paths_use c.args.sheet.now (c.loop.next + (c.args.terms.form.width + c.small_at.result * c.args.terms.form.width)) c.args.terms.form.width n c.args.end) fewer,
     )
 
 pub returns : goal.returns
 returns c =
     sym
     (c.loop.invariant.1
-    ∙ use_none c.args.sheet.now c.args.width c.loop.next (c.args.count - c.loop.counter)
+    ∙ use_none c.args.sheet.now c.args.terms.form.width c.loop.next (c.args.count - c.loop.counter)
     c.args.end (omega arith))

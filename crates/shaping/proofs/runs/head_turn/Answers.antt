@@ -16,7 +16,7 @@ returns-in_err-head_ruling c =
 pub small_at-luts-requires : goal.small_at-luts-requires
 small_at-luts-requires c =
     record {
-      narrow = c.requires.narrow;
+      narrow = c.args.terms.narrow;
       width_in_bounds = omega (
         arith,
         head_inside (due_of c.args.terms) c.args.sheet.now

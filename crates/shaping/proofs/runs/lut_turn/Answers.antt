@@ -23,14 +23,11 @@ overflow_add-at c =
 
 pub node_at-root-requires : goal.node_at-root-requires
 node_at-root-requires c =
-    record {
-      narrow = c.requires.narrow;
-      width_in_bounds = omega (
-        arith,
-        lut_whole (due_of c.args.terms) c.args.sheet.now c.args.left.least
-            c.args.at (sym c.lut_ruling.ensures ∙ c.in_ok-lut_ruling.was),
-      );
-    }
+    omega (
+      arith,
+      lut_whole (due_of c.args.terms) c.args.sheet.now c.args.left.least
+          c.args.at (sym c.lut_ruling.ensures ∙ c.in_ok-lut_ruling.was),
+    )
 
 pub returns : goal.returns
 returns c =

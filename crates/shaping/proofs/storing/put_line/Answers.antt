@@ -9,7 +9,6 @@ use Rattle.shaping.proofs.storing.put_line.Goals as goal
 pub put_list-requires : goal.put_list-requires
 put_list-requires c =
     record {
-      narrow = c.requires.line_ready.narrow;
       width_in_bounds = omega (arith, c.requires.line_ready.whole, ap (λ (n : ℕ). n * c.args.terms.form.width) c.size_at-size.ensures.number);
       id_in_bounds = omega (arith, c.requires.line_room.cuts);
     }

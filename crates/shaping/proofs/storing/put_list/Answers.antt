@@ -11,14 +11,10 @@ use Rattle.shaping.proofs.storing.put_list.Goals as goal
 pub loop-i-init : goal.loop-i-init
 loop-i-init c =
     let ids =
-    counted (ids_at c.args.sheet.now c.args.at c.args.width c.args.size.leaves) in
+    counted (ids_at c.args.sheet.now c.args.at c.args.terms.form.width c.args.size.leaves) in
     filled_to (omega arith)
     (filled_none c.args.cuts.now (7 * c.args.node.id)
     (λ j. get_or ids (j - 7 * c.args.node.id) 0))
-
-pub list_place-requires : goal.list_place-requires
-list_place-requires c =
-    record { narrow = c.requires.narrow; width_in_bounds = c.requires.width_in_bounds }
 
 pub bounds-cuts-base : goal.bounds-cuts-base
 bounds-cuts-base c = omega (arith, c.loop-i.invariant.as_long)
@@ -26,7 +22,7 @@ bounds-cuts-base c = omega (arith, c.loop-i.invariant.as_long)
 pub loop-i-preserved : goal.loop-i-preserved
 loop-i-preserved c =
     let ids =
-    counted (ids_at c.args.sheet.now c.args.at c.args.width c.args.size.leaves) in
+    counted (ids_at c.args.sheet.now c.args.at c.args.terms.form.width c.args.size.leaves) in
     let base = 7 * c.args.node.id in
     let i = c.loop-i.i in
     let place : i ≡ base + i - base = omega arith in

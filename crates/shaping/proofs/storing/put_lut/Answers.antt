@@ -9,13 +9,13 @@ use Rattle.shaping.proofs.storing.put_lut.Goals as goal
 
 pub overflow_mul-size : goal.overflow_mul-size
 overflow_mul-size c =
-    omega (arith, twice c.size_at-size.result.leaves c.requires.lut_ready.narrow, c.size_at-size.ensures.fits)
+    omega (arith, twice c.size_at-size.result.leaves c.args.terms.narrow, c.size_at-size.ensures.fits)
 
 pub overflow_add-cut-4 : goal.overflow_add-cut-4
 overflow_add-cut-4 c =
     omega (
       arith,
-      c.requires.lut_ready.whole,
+      c.requires.whole,
       ap (λ (n : ℕ). n * c.args.terms.form.width) c.size_at-size.ensures.number,
     )
 
@@ -25,7 +25,7 @@ number_at-requires c =
       size_bound = omega arith;
       size_in_bounds = omega (
         arith,
-        c.requires.lut_ready.whole,
+        c.requires.whole,
         ap (λ (n : ℕ). n * c.args.terms.form.width) c.size_at-size.ensures.number,
       );
     }
@@ -33,8 +33,7 @@ number_at-requires c =
 pub put_list-requires : goal.put_list-requires
 put_list-requires c =
     record {
-      narrow = c.requires.lut_ready.narrow;
-      width_in_bounds = omega (arith, c.requires.lut_ready.whole, ap (λ (n : ℕ). n * c.args.terms.form.width) c.size_at-size.ensures.number);
+      width_in_bounds = omega (arith, c.requires.whole, ap (λ (n : ℕ). n * c.args.terms.form.width) c.size_at-size.ensures.number);
       id_in_bounds = omega (arith, c.requires.lut_room.cuts);
     }
 

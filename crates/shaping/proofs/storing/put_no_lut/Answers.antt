@@ -4,4 +4,4 @@ use Rattle.shaping.proofs.storing.put_no_lut.Goals as goal
 
 pub returns : goal.returns
 returns c =
-    no_lut_put c.args.sheet.now c.args.node.id c.put_list.ensures
+    no_lut_put c.args.sheet.now c.args.terms.form.width c.args.node.id c.put_list.ensures

@@ -2,7 +2,7 @@
 use native.Mathlib.Omega.{arith}
 use Prim.Native.Nat.{ℕ, ◌<◌}
 use mathlib.Core.Path.{◌≡◌, subst}
-use lib.ListN.{get_or, take}
+use lib.ListN.{get_or}
 use Rattle.storage.specs.Roles.{met_in}
 use Rattle.storage.proofs.Entries.{member_at, place_of}
 use Rattle.storage.proofs.InMarks.{tells_yes, tells_no}
@@ -11,7 +11,7 @@ use Rattle.walking.proofs.cones.leaves_met.Goals.{then-nodes-id-via-then-nodes-i
 
 pub returns-then-nodes-id : goal.returns-then-nodes-id
 returns-then-nodes-id c =
-    let here = member_at (take c.args.size.leaves c.args.leaves.now) c.loop-id.id-index (omega arith) in
+    let here = member_at c.args.leaves.now c.loop-id.id-index (omega arith) in
     tells_no (λ all.
     elim c.then-nodes-id.branch [
       | then-nodes-id-via-then-nodes-id w ↦ omega (arith, w.if-nodes-id.true, (all _ here).0)

@@ -7,4 +7,4 @@ use Rattle.walking.proofs.cones.leaves_met.Given as goal
 
 abbrev pub invariant-loop-id : goal.invariant-loop-id
 invariant-loop-id l =
-    (j : ℕ) → j < l.id-index → (get_or l.id-items j 0 < l.nodes) × (get_or (met_in l.roles) (get_or l.id-items j 0) 0 ≡ 1)
+    (j : ℕ) → j < l.id-index → (get_or l.leaves j 0 < l.nodes) × (get_or (met_in l.roles) (get_or l.leaves j 0) 0 ≡ 1)

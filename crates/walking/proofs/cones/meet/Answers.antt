@@ -1,5 +1,4 @@
 -- `meet` meets its contract: the role stored is the one that `meet_one` says.
-use lib.ListN.{take}
 use Rattle.walking.proofs.WalkRoles.{leaf_met, leaf_both, open_both}
 use Rattle.walking.proofs.cones.meet.Goals as goal
 use Rattle.walking.proofs.cones.meet.Goals.{then-is_leaf+then-not-is_walked, else-is_leaf, else-is_leaf-via-then-is_leaf+else-not-is_walked, else-is_leaf-via-else-is_leaf}
@@ -7,7 +6,7 @@ use Rattle.walking.proofs.cones.meet.Goals.{then-is_leaf+then-not-is_walked, els
 pub returns : goal.returns
 returns c =
     let a = c.args in
-    let leaves = take a.size.leaves a.leaves.now in
+    let leaves = a.leaves.now in
     elim c.if-is_leaf.branch [
       | then-is_leaf+then-not-is_walked w ↦
           rw w.roles-is

@@ -5,9 +5,9 @@ use Rattle.storage.proofs.Drawings.{fed_entry}
 use Rattle.walking.proofs.Walks.{meets_turn, meets_end}
 use Rattle.walking.proofs.cones.meet_fanins.Goals as goal
 
-pub meet-requires-clause-id_in_bounds : goal.meet-requires-clause-id_in_bounds
-meet-requires-clause-id_in_bounds c =
-    omega (arith, c.loop-id.invariant.size, fed_entry c.requires.roles_room c.list_at-id-items.ensures c.loop-id-test.true)
+pub meet-requires : goal.meet-requires
+meet-requires c =
+    omega (arith, c.loop-id.invariant.size, fed_entry c.requires c.list_at-id-items.ensures c.loop-id-test.true)
 
 pub loop-id-preserved : goal.loop-id-preserved
 loop-id-preserved c = meets_turn _ c.loop-id.invariant c.loop-id-test.true refl c.meet.ensures

@@ -5,9 +5,9 @@ use Rattle.weighing.proofs.luts.table_right.Goals as goal
 pub cone_table-table-requires : goal.cone_table-table-requires
 cone_table-table-requires c =
     let pre = c.requires in
-    cone_asked pre c.cut_size.ensures
+    cone_asked pre c.list_at.ensures
 
 pub returns : goal.returns
 returns c =
     let pre = c.requires in
-    function_told pre c.cut_size.ensures c.cone_table-table.ensures
+    function_told pre c.list_at.ensures c.cone_table-table.ensures
