@@ -4,7 +4,7 @@ ghost use Rattle.drawing.specs.Refusals.{number, place};
 
 use crate::Refusal;
 
-// Two functions, and no trait that `Fault` of sheet has too: no body would be shared, nothing takes either type, and the replies, which are of `Result`, couldn't have it.
+// Two functions, and no trait that `Fault` of sheet has too: no body would be shared, nothing takes either type, and replies that are a `Result` couldn't have it.
 pub fn number_of(r: Refusal) -> u64
     ensures { result ≡ number r }
 {
