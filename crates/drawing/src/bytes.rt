@@ -27,7 +27,8 @@ pub fn number_at(s: &[u8], at: usize, size: usize) -> u64
     number
 }
 
-// A number of one byte or two.
+// A number of one byte or two. `Narrow width` stays a clause of this, `ids_below` and `put_ids`: a form's width is any number in the paper's
+// definitions, so a type of narrow ones would be made at each of 19 calls, which is no plainer.
 pub fn small_at(s: &[u8], at: usize, width: usize) -> usize
     requires narrow { Narrow width }
     requires width_in_bounds { at + width ≤ length s.now }

@@ -8,15 +8,12 @@ use mathlib.Core.List.{List, ◌∷◌}
 use borrow.Author.Tests.{lt-ltb, le-ltb}
 use lib.ListN.{length, get_or, get_or-eq_default}
 use Rattle.drawing.specs.paper.Bytes.{number_at, ids_at, some_from}
-use Rattle.drawing.specs.Bytes.{Narrow, SmallAt}
+use Rattle.drawing.specs.Bytes.{SmallAt}
 use Rattle.drawing.proofs.Ids.{length_ids, ids_none, ids_step}
 use Rattle.sheet.specs.paper.Shape.{Due, rising, leaves_range, leaves_at}
 
 pub id_inside : (width count i : ℕ) → i < count → i * width + width ≤ count * width
 id_inside width count i less = omega (arith, suc-mul i width, mul-le-mul_right {m = suc i} {n = count} width (omega (arith, less)))
-
-pub narrow_one : Narrow 1
-narrow_one = record { some = omega arith; few = omega arith }
 
 module _ (s : List ℕ) where
   -- one id of a list, and none behind it

@@ -1,7 +1,6 @@
 -- `line_uses` meets its contract: label, leaves and paths, each within what is left of the value.
 use Rattle.shaping.specs.Terms.{due_of}
 use Rattle.drawing.proofs.Ids.{twice}
-use Rattle.shaping.proofs.Ids.{narrow_one}
 use Rattle.shaping.proofs.Values.{line_torn, line_short, line_used}
 use native.Mathlib.Omega.{arith}
 use Rattle.shaping.proofs.fields.line_uses.Goals as goal
@@ -26,13 +25,6 @@ pub returns-then-size-before : goal.returns-then-size-before
 returns-then-size-before c =
     line_short (due_of c.args.terms) c.args.sheet.now c.args.at (omega arith)
     c.size_at-leaves.ensures (omega arith)
-
-pub small_at-count-requires : goal.small_at-count-requires
-small_at-count-requires c = record { narrow = narrow_one; width_in_bounds = omega arith }
-
-pub paths_use-requires : goal.paths_use-requires
-paths_use-requires c =
-    record { at_le_end = omega arith; end_in_bounds = omega arith }
 
 pub returns : goal.returns
 returns c =
