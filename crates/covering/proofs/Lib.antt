@@ -1,5 +1,4 @@
 pub mod Stores
-pub mod Leaves
 pub mod Sweeps
 pub mod Orders
 pub mod ConeRows

@@ -52,9 +52,8 @@ pub record CoverMade (inputs nodes : ℕ) (cuts outputs before : List ℕ) (numb
   pub count : number ≡ lut_count (is_root nodes after) nodes
 
 -- each of the outputs has a label
-pub record DepthAsked (labels outputs : List ℕ) (number : ℕ) : Type 0 where
-  pub outputs_long : number ≤ length outputs
-  pub labelled : (v : ℕ) → Memᴰ v (take number outputs) → v < length labels
+abbrev pub DepthAsked : (labels outputs : List ℕ) → Type 0
+DepthAsked labels outputs = (v : ℕ) → Memᴰ v outputs → v < length labels
 
 pub record GateMarked (v inputs : ℕ) (before after : List ℕ) : Type 0 where
   pub gate : inputs ≤ v → after ≡ set before v 1

@@ -72,13 +72,13 @@ pub fn cover(
     count_marks(luts, nodes)
 }
 
-// The depth of a cover whose roots' depths are their labels: the greatest label of the first `number` outputs.
-pub fn depth(labels: &[u16], outputs: &[u16], number: usize) -> Label
-    requires { DepthAsked labels.now outputs.now number }
-    ensures { result.depth ≡ greatest (map (λ v. get_or labels.now v 0) (take number outputs.now)) }
+// The depth of a cover whose roots' depths are their labels: the greatest label of the outputs.
+pub fn depth(labels: &[u16], outputs: &[u16]) -> Label
+    requires { DepthAsked labels.now outputs.now }
+    ensures { result.depth ≡ greatest (map (λ v. get_or labels.now v 0) outputs.now) }
 {
     let mut best = Label { depth: 0 };
-    for &id in &outputs[..number] {
+    for &id in outputs {
         best = larger(best, label_of(labels, Node { id }));
     }
     best

@@ -13,7 +13,7 @@ use crate::paths::are_paths;
 use covering::covers::depth;
 use drawing::bytes::number_at;
 use sheet::Form;
-use storage::lists::{PLACES, list_at, size_at};
+use storage::lists::list_at;
 use storage::marks::label_of;
 use storage::{Label, Net, Node};
 
@@ -31,9 +31,7 @@ pub fn keeps_label(labels: &[u16], cuts: &[u16], gate: Node, p: Label) -> bool
     requires { LabelAsked labels.now cuts.now gate.id }
     ensures { Tells (LabelRight (label_in labels.now) (list_at cuts.now gate.id) p.depth gate.id) result }
 {
-    let size = size_at(cuts, gate);
-    let from = PLACES * (gate.id as usize) + 1;
-    let deepest = depth(labels, &cuts[from..], size);
+    let deepest = depth(labels, list_at(cuts, gate));
     let label = label_of(labels, gate);
     if label.depth as usize != deepest.depth as usize + 1 {
         return false;

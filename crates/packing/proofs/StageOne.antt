@@ -54,10 +54,8 @@ module _ {inputs nodes k : ℕ} {fanins rows order outputs : List ℕ} {number :
           luts_long = long;
         }
 
-    pub depth_asked : DepthAsked labels outputs number
-    depth_asked =
-        let long = all_labelled.labels_long in
-        record { outputs_long = asked.outputs_long; labelled = λ v among. omega (arith, asked.output_nodes v among) }
+    pub depth_asked : DepthAsked labels (take number outputs)
+    depth_asked v among = let long = all_labelled.labels_long in omega (arith, asked.output_nodes v among)
 
     module _ {before : List ℕ} {many : ℕ} {luts : List ℕ} (cover : CoverMade inputs nodes cuts (take number outputs) before many luts) where
       pub root_gate : (v : ℕ) → v < nodes → get_or luts v 0 ≡ 1 → Gate (net_in inputs nodes fanins) v

@@ -69,7 +69,7 @@ pub fn map_gates(
     label_gates(net, labels, cuts, roles, links);
     let many = cover(net.numbers, net.order, cuts, outputs, luts);
     store_tables(net, rows, cuts, luts, words);
-    let deepest = depth(labels, outputs, net.numbers.roots);
+    let deepest = depth(labels, &outputs[..net.numbers.roots]);
     Mapping {
         luts: many,
         depth: deepest,

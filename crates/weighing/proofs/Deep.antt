@@ -10,7 +10,7 @@ use mathlib.Core.List.{List, [], ◌∷◌, map, Memᴰ}
 use lib.ListN.{length, get_or, take, set, length-set}
 use lib.Seq.{get_or-set_same, get_or-set_other, drop-set-lt}
 use Rattle.storage.specs.Entries.{cleared, Beyond}
-use Rattle.storage.specs.Lists.{size_at, list_at}
+use Rattle.storage.specs.Lists.{list_at}
 use Rattle.storage.specs.Drawings.{net_in}
 use Rattle.storage.proofs.Clears.{cleared_low, cleared_size, cleared_beyond, cleared_used, beyond_same, beyond_then}
 use Rattle.storage.proofs.Drawings.{fanins_in, gate_of_lem, gate_above, gate_below}
@@ -21,7 +21,6 @@ use Rattle.theory.proofs.Depths.{depths_are_one}
 use Rattle.theory.proofs.Members.{greatest_at_most}
 use Rattle.covering.specs.Covers.{is_root, luts_in, DepthAsked}
 use Rattle.covering.proofs.Stores.{stored_or_kept}
-use Rattle.covering.proofs.Leaves.{leaves_from, leaves_cut, leaves_room}
 use Rattle.covering.proofs.Orders.{order_gate, order_once, gate_place, fanin_before}
 use Rattle.covering.proofs.Covered.{root_marked}
 use Rattle.sheet.specs.paper.Rules.{CoverKept}
@@ -42,16 +41,12 @@ input_depth inputs nodes cuts {luts} {v} low none = subst (Depth (net_in inputs 
 
 -- One root
 
-module _ {luts cuts : List ℕ} {v : ℕ} {depths : List ℕ} (p : DepthFits luts cuts v depths) {size : ℕ} (is : size ≡ size_at cuts v) where
-  pub depth_asked : DepthAsked depths (leaves_from cuts v) size
-  depth_asked =
-      record {
-        outputs_long = leaves_room cuts v is p.cuts_long p.six;
-        labelled = λ u m. p.leaf_nodes u (subst (Memᴰ u) (leaves_cut cuts v is) m);
-      }
+module _ {luts cuts : List ℕ} {v : ℕ} {depths : List ℕ} (p : DepthFits luts cuts v depths) {leaves : List ℕ} (lent : leaves ≡ list_at cuts v) where
+  pub depth_asked : DepthAsked depths leaves
+  depth_asked u m = p.leaf_nodes u (subst (Memᴰ u) lent m)
 
-  pub depth_at_lem : {r : ℕ} → r ≡ greatest (map (λ u. get_or depths u 0) (take size (leaves_from cuts v))) → r ≡ deepest cuts depths v
-  depth_at_lem e = rw (leaves_cut cuts v is) at e
+  pub depth_at_lem : {r : ℕ} → r ≡ greatest (map (λ u. get_or depths u 0) leaves) → r ≡ deepest cuts depths v
+  depth_at_lem e = rw lent at e
 
 -- Along the order
 
@@ -203,9 +198,8 @@ module _ {inputs nodes : ℕ} {order luts cuts before : List ℕ} (p : DepthsAsk
 
 module _ {inputs nodes : ℕ} {order luts cuts outputs : List ℕ} {number : ℕ} {before : List ℕ}
     (p : DeepAsked inputs nodes order luts cuts outputs number before) where
-  pub outputs_deep : {found : List ℕ} → DepthsFound inputs nodes luts cuts before found → DepthAsked found outputs number
-  outputs_deep d =
-      record { outputs_long = p.outputs_long; labelled = λ v m. omega (arith, p.output_nodes v m, p.asked.depths_long, d.rest.size) }
+  pub outputs_deep : {found : List ℕ} → DepthsFound inputs nodes luts cuts before found → DepthAsked found (take number outputs)
+  outputs_deep d v m = omega (arith, p.output_nodes v m, p.asked.depths_long, d.rest.size)
 
   pub deep_told : {found after : List ℕ} {r : ℕ} → DepthsFound inputs nodes luts cuts before found → r ≡ greatest (map (λ v. get_or found v 0) (take number outputs)) →
       after ≡ cleared nodes found → DeepTold inputs nodes luts cuts (take number outputs) before r after
@@ -240,8 +234,8 @@ module _ {inputs nodes : ℕ} {order luts cuts outputs : List ℕ} {number : ℕ
         wanted_long = p.wanted_long;
       }
 
-  pub labels_asked : DepthAsked labels outputs number
-  labels_asked = record { outputs_long = p.outputs_long; labelled = λ v m. omega (arith, p.output_nodes v m, p.labels_long) }
+  pub labels_asked : DepthAsked labels (take number outputs)
+  labels_asked v m = omega (arith, p.output_nodes v m, p.labels_long)
 
   root_gate : (r : ℕ) → is_root nodes luts r ≡ true → Gate (net_in inputs nodes cuts) r
   root_gate r at = gate_of_lem inputs nodes cuts (p.gates r at) (root_marked nodes luts r at).0

@@ -4,7 +4,7 @@ ghost use Rattle.weighing.specs.PassFour.{WholeAsked, WholeAnswered, CoverAsked,
 ghost use Rattle.weighing.specs.PassFour.{DepthFits, DepthSet, DepthsAsked, DepthsFound, DeepAsked, DeepTold};
 
 use covering::covers::{depth, mark_gates, mark_leaves};
-use storage::lists::{PLACES, node_at, size_at};
+use storage::lists::{list_at, node_at};
 use storage::marks::{above, put_label};
 use storage::{Label, Node, Numbers, fill};
 
@@ -73,8 +73,7 @@ fn set_depth(luts: &[u8], cuts: &[u16], node: Node, depths: &mut [u16])
 {
     let v = node.id as usize;
     if luts[v] == 1 {
-        let at = PLACES * v + 1;
-        let deepest = depth(depths, &cuts[at..], size_at(cuts, node));
+        let deepest = depth(depths, list_at(cuts, node));
         put_label(depths, node, above(deepest));
     }
 }
@@ -108,7 +107,7 @@ fn cover_depth(
         (take numbers.roots outputs.now) depths.old result.depth depths.new }
 {
     find_depths(numbers, order, luts, cuts, depths);
-    let reached = depth(depths, outputs, numbers.roots);
+    let reached = depth(depths, &outputs[..numbers.roots]);
     fill(depths, numbers.nodes, 0);
     reached
 }
@@ -139,7 +138,7 @@ pub fn judge_whole(
     if reached.depth != head.depth {
         return Err(WholeFault::Depth);
     }
-    let labelled = depth(labels, outputs, numbers.roots);
+    let labelled = depth(labels, &outputs[..numbers.roots]);
     if labelled.depth != head.depth {
         return Err(WholeFault::Depth);
     }

@@ -6,4 +6,4 @@ use Rattle.theory.specs.paper.Lists.{greatest}
 use Rattle.covering.proofs.covers.depth.Given as goal
 
 abbrev pub invariant-loop-id : goal.invariant-loop-id
-invariant-loop-id l = l.best.depth ≡ greatest (map (λ v. get_or l.labels v 0) (take l.id-index l.id-items))
+invariant-loop-id l = l.best.depth ≡ greatest (map (λ v. get_or l.labels v 0) (take l.id-index l.outputs))

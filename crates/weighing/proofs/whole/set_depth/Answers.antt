@@ -10,18 +10,18 @@ use Rattle.weighing.proofs.whole.set_depth.Goals as goal
 pub depth-deepest-requires : goal.depth-deepest-requires
 depth-deepest-requires c =
     let pre = c.requires in
-    depth_asked pre c.size_at.ensures
+    depth_asked pre c.list_at.ensures
 
 pub above-requires : goal.above-requires
 above-requires c =
     let p = c.requires in
-    omega (arith, depth_at_lem p c.size_at.ensures c.depth-deepest.ensures, p.small)
+    omega (arith, depth_at_lem p c.list_at.ensures c.depth-deepest.ensures, p.small)
 
 pub returns-then-luts-v-eq1 : goal.returns-then-luts-v-eq1
 returns-then-luts-v-eq1 c =
     let a = c.args in
     let pre = c.requires in
-    let found = depth_at_lem pre c.size_at.ensures c.depth-deepest.ensures in
+    let found = depth_at_lem pre c.list_at.ensures c.depth-deepest.ensures in
     record {
       root =
           λ _.
