@@ -1,4 +1,5 @@
 -- Demand 1 for the inspector, and demand 3.
+use Rattle.std.specs.Prelude.{Err}
 use Prim.Native.Nat.{ℕ, ◌≤◌}
 use native.Mathlib.Omega.{arith}
 use mathlib.Core.Path.{◌≡◌, refl, sym, ap, ◌∙◌, subst}
@@ -13,9 +14,8 @@ use Rattle.sheet.specs.Shape as shape
 use Rattle.sheet.specs.paper.Rules.{Rule, Found}
 use Rattle.keeping.specs.paper.Right.{Right}
 use Rattle.keeping.proofs.Kept.{kept_is_right}
-use Rattle.inspecting.specs.declared.Inspection.{Inspection}
-use Rattle.inspecting.specs.declared.Inspection.TheVariants.{Refused, LoopAt, Shape}
-use Rattle.inspecting.specs.paper.Inspecting.{Inspects, KeepsAll, due_in, sheet_in, reply_of, said, number, place}
+use Rattle.inspecting.specs.declared.InspectError.TheVariants.{Refused, LoopAt, Shape}
+use Rattle.inspecting.specs.paper.Inspecting.{Inspection, Inspects, KeepsAll, due_in, sheet_in, reply_of, said, number, place}
 use Rattle.inspecting.proofs.Sound.{roots_rise}
 use Rattle.inspecting.proofs.Replies.{one_reply, keeps_accepted, accepted_exactly}
 use Rattle.walking.specs.paper.Loops.{loop_number}
@@ -98,11 +98,11 @@ module _ (s t : List ℕ) where
 
   refusing : {x : ℕ × ℕ} → InspectorRefuses s t x → Refusing x
   refusing (InspectorRefuses.faulty {x = x} e) =
-      record { reply = Refused x; inspects = Inspects.refused e; says = refl; some = λ n. omega (arith, n, (refusal_number x).0) }
+      record { reply = Err (Refused x); inspects = Inspects.refused e; says = refl; some = λ n. omega (arith, n, (refusal_number x).0) }
   refusing (InspectorRefuses.loop {g = g} e l) =
-      record { reply = LoopAt (record { id = g }); inspects = Inspects.loop e l; says = refl; some = λ n. omega (arith, n) }
+      record { reply = Err (LoopAt (record { id = g })); inspects = Inspects.loop e l; says = refl; some = λ n. omega (arith, n) }
   refusing (InspectorRefuses.misshapen {f = f} taken e) =
-      record { reply = Shape f; inspects = Inspects.faulty taken e; says = refl; some = λ n. omega (arith, n, fault_high f) }
+      record { reply = Err (Shape f); inspects = Inspects.faulty taken e; says = refl; some = λ n. omega (arith, n, fault_high f) }
   refusing (InspectorRefuses.broken {rule = rule} taken e first) =
       record {
         reply = reply_of (sheet_in s t).depth (Found.broken rule);

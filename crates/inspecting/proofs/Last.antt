@@ -1,7 +1,7 @@
 -- Passes three and four together, from arrays.
 use Prim.Native.Nat.{ℕ, ◌≤◌}
 use native.Mathlib.Omega.{arith}
-use mathlib.Core.Path.{◌≡◌, refl, ap, subst}
+use mathlib.Core.Path.{◌≡◌, refl, ap, subst, ◌∙◌}
 use mathlib.Core.Bool.{true}
 use mathlib.Core.List.{List, [], ◌∷◌, ◌++◌, map, flat_map, Memᴰ}
 use lib.ListN.{length, get_or, take}
@@ -9,7 +9,6 @@ use Rattle.theory.specs.paper.Net.{Net}
 use Rattle.theory.specs.paper.Lists.{greatest}
 use Rattle.theory.specs.paper.Walk.{Cut}
 use Rattle.theory.specs.paper.Cover.{Luts}
-use Rattle.storage.specs.declared.Node.{Node}
 use Rattle.storage.specs.Entries.{cleared}
 use Rattle.storage.specs.Drawings.{net_in, tables_in}
 use Rattle.storage.proofs.Clears.{cleared_size}
@@ -21,12 +20,12 @@ use Rattle.std.specs.Prelude.{⊤, Result, Ok, Err}
 use Rattle.weighing.specs.declared.luts.LutFault.{LutFault}
 use Rattle.weighing.specs.declared.luts.LutFault.TheVariants as lut-fault
 use Rattle.weighing.specs.declared.whole.WholeFault.{WholeFault}
+use Rattle.weighing.specs.declared.whole.WholeFault.TheVariants as whole-fault
 use Rattle.weighing.specs.PassThree.{LutsRuled, LutsAsked}
 use Rattle.weighing.specs.PassFour.{WholeRuled, WholeAsked}
-use Rattle.inspecting.specs.declared.Inspection.{Inspection}
-use Rattle.inspecting.specs.declared.Inspection.TheVariants as inspection
-use Rattle.inspecting.specs.paper.Inspecting.{reply_of}
-use Rattle.inspecting.specs.Holding.{SheetHeld, LastAsked, LastRuled}
+use Rattle.inspecting.specs.declared.InspectError.{InspectError}
+use Rattle.inspecting.specs.paper.Inspecting.{Inspection, reply_of}
+use Rattle.inspecting.specs.Holding.{lut_error, whole_error, SheetHeld, LastAsked, LastRuled}
 use Rattle.sheet.proofs.Firsts.{first_before, first_after}
 use Rattle.inspecting.proofs.Listed.{luts_held, luts_laid, listed_below}
 use Rattle.inspecting.proofs.Passes.{found_luts, luts_found, found_whole, whole_found, luts_chosen}
@@ -90,30 +89,22 @@ module _ {k inputs nodes number : ℕ} {fanins rows outputs order labels roots c
 
   -- Pass three breaks off
 
-  module _ {g : Node} where
-    pub last_cut : Third (Err (lut-fault.Cut g)) → Both (inspection.Cut g)
-    last_cut ruled =
-        record {
-          right =
-              λ sheet h.
-              record {
-                found = found_luts sheet.luts (Err (lut-fault.Cut g));
-                first = first_before (map Rule.cover (gates net) ++ (Rule.depth ∷ [])) (first_luts sheet h ruled);
-                reply = refl;
-              };
-        }
+  abbrev rest : List Rule
+  rest = map Rule.cover (gates net) ++ (Rule.depth ∷ [])
 
-    pub last_function : Third (Err (lut-fault.Function g)) → Both (inspection.Function g)
-    last_function ruled =
-        record {
-          right =
-              λ sheet h.
-              record {
-                found = found_luts sheet.luts (Err (lut-fault.Function g));
-                first = first_before (map Rule.cover (gates net) ++ (Rule.depth ∷ [])) (first_luts sheet h ruled);
-                reply = refl;
-              };
-        }
+  pub last_luts : {f : LutFault} {e : InspectError} → e ≡ lut_error f → Third (Err f) → Both (Err e)
+  last_luts {f = lut-fault.Cut g} is ruled =
+      record {
+        right =
+            λ sheet h.
+            record { found = found_luts sheet.luts (Err (lut-fault.Cut g)); first = first_before rest (first_luts sheet h ruled); reply = ap Err is };
+      }
+  last_luts {f = lut-fault.Function g} is ruled =
+      record {
+        right =
+            λ sheet h.
+            record { found = found_luts sheet.luts (Err (lut-fault.Function g)); first = first_before rest (first_luts sheet h ruled); reply = ap Err is };
+      }
 
   -- It does not
 
@@ -143,3 +134,11 @@ module _ {k inputs nodes number : ℕ} {fanins rows outputs order labels roots c
     pub last_whole : {r : Result ⊤ WholeFault} {reply : Inspection} → reply ≡ reply_of head (found_whole r) → Fourth r → Both reply
     last_whole {r} e ruled =
         record { right = λ sheet h. record { found = found_whole r; first = first_after (first_luts sheet h kept) (first_whole sheet h ruled); reply = e } }
+
+    -- pass four breaks off
+    pub last_broken : {f : WholeFault} {e : InspectError} → e ≡ whole_error f → Fourth (Err f) → Both (Err e)
+    last_broken {f} is ruled = last_whole (ap Err is ∙ whole_reply f) ruled
+      where
+        whole_reply : (f : WholeFault) → Err (whole_error f) ≡ reply_of head (found_whole (Err f))
+        whole_reply (whole-fault.Cover g) = refl
+        whole_reply whole-fault.Depth = refl

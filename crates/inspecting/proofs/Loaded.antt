@@ -2,11 +2,10 @@
 use Rattle.std.specs.Prelude.{Ok, Err}
 use Prim.Native.Nat.{ℕ, ◌≤◌, ◌<◌}
 use native.Mathlib.Omega.{arith}
-use mathlib.Core.Path.{◌≡◌, refl, ap, ◌∙◌}
+use mathlib.Core.Path.{◌≡◌, refl, ap, ◌∙◌, sym, subst}
 use mathlib.Core.List.{List, ◌++◌, flat_map, append_assoc}
 use lib.ListN.{length, get_or, take}
 use Rattle.theory.specs.paper.Net.{Net}
-use Rattle.storage.specs.declared.Node.{Node}
 use Rattle.storage.specs.Drawings.{net_in, tables_in}
 use Rattle.storage.proofs.Drawings.{drawn_span}
 use Rattle.sheet.specs.paper.Sheet.{Sheet}
@@ -21,10 +20,9 @@ use Rattle.judging.specs.Gates.{Judged}
 use Rattle.judging.specs.declared.Broken.{Broken}
 use Rattle.judging.specs.declared.Broken.TheVariants as broken
 use Rattle.judging.specs.Gates.{lined_of, HoldsSheet, JudgeAsked, JudgesHeld, found_of}
-use Rattle.inspecting.specs.declared.Inspection.{Inspection}
-use Rattle.inspecting.specs.declared.Inspection.TheVariants as inspection
-use Rattle.inspecting.specs.paper.Inspecting.{reply_of}
-use Rattle.inspecting.specs.Holding.{SheetHeld, last_rules, LastAsked, LastRuled, SheetRuled, RulesAsked, due_for}
+use Rattle.inspecting.specs.declared.InspectError.{InspectError}
+use Rattle.inspecting.specs.paper.Inspecting.{Inspection, reply_of}
+use Rattle.inspecting.specs.Holding.{gate_error, SheetHeld, last_rules, LastAsked, LastRuled, SheetRuled, RulesAsked, due_for}
 use Rattle.inspecting.proofs.Sound.{roots_rise, sheet_short}
 
 rules_split : (net : Net) (sheet : Sheet) → rules_of net sheet ≡ flat_map (gate_rules net.inputs sheet.lines) (gates net) ++ last_rules net sheet
@@ -99,14 +97,13 @@ module _ {k inputs nodes number : ℕ} {fanins rows outputs order t : List ℕ} 
             reply = refl;
           })
 
-      pub gates_cut : {g : Node} {b : Broken} → r ≡ Err b → b ≡ broken.Cut g → Ruled (inspection.Cut g)
-      gates_cut e named = gates_rule (ap (found_of net.inputs sheet.lines) (e ∙ ap Err named))
-
-      pub gates_label : {g : Node} {b : Broken} → r ≡ Err b → b ≡ broken.Label g → Ruled (inspection.Label g)
-      gates_label e named = gates_rule (ap (found_of net.inputs sheet.lines) (e ∙ ap Err named))
-
-      pub gates_paths : {g : Node} {b : Broken} → r ≡ Err b → b ≡ broken.Paths g → Ruled (inspection.Paths g)
-      gates_paths e named = gates_rule (ap (found_of net.inputs sheet.lines) (e ∙ ap Err named))
+      pub gates_broken : {b : Broken} {e : InspectError} → e ≡ gate_error b → r ≡ Err b → Ruled (Err e)
+      gates_broken {b} named e = subst (λ (x : InspectError). Ruled (Err x)) (sym named) (by b e)
+        where
+          by : (b : Broken) → r ≡ Err b → Ruled (Err (gate_error b))
+          by (broken.Cut g) e = gates_rule (ap (found_of net.inputs sheet.lines) e)
+          by (broken.Label g) e = gates_rule (ap (found_of net.inputs sheet.lines) e)
+          by (broken.Paths g) e = gates_rule (ap (found_of net.inputs sheet.lines) e)
 
       -- or not
       pub gates_kept : r ≡ Ok tt → {x : Inspection} →

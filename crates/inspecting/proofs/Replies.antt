@@ -1,13 +1,13 @@
 -- One promise allows one reply, and a sheet is accepted exactly if it keeps all the rules.
+use Rattle.std.specs.Prelude.{Ok, Err}
 use Prim.Native.Nat.{ℕ}
 use native.Mathlib.Omega.{arith}
 use mathlib.Core.Path.{◌≡◌, refl, ap}
 use mathlib.Core.List.{List}
 use Rattle.walking.proofs.Unique.{lowest_one, some_loop}
 use Rattle.sheet.specs.paper.Rules.{Rule, Found}
-use Rattle.inspecting.specs.declared.Inspection.{Inspection}
-use Rattle.inspecting.specs.declared.Inspection.TheVariants.{Accepted, LoopAt}
-use Rattle.inspecting.specs.paper.Inspecting.{reply_of, sheet_in, Inspects, KeepsAll}
+use Rattle.inspecting.specs.declared.InspectError.TheVariants.{LoopAt}
+use Rattle.inspecting.specs.paper.Inspecting.{Inspection, reply_of, sheet_in, Inspects, KeepsAll}
 use Rattle.sheet.proofs.Firsts.{first_is_one, none_keeps, keeps_none}
 
 module _ (s t : List ℕ) where
@@ -17,7 +17,7 @@ module _ (s t : List ℕ) where
   one_reply (Inspects.refused p) (Inspects.faulty d _) = let z : ◌≡◌ {A = ℕ} 0 1 = cc d.whole in absurd (omega arith)
   one_reply (Inspects.refused p) (Inspects.ruled d _ _) = let z : ◌≡◌ {A = ℕ} 0 1 = cc d.whole in absurd (omega arith)
   one_reply (Inspects.loop p _) (Inspects.refused q) = let z : ◌≡◌ {A = ℕ} 0 1 = cc in absurd (omega arith)
-  one_reply (Inspects.loop p l) (Inspects.loop q m) = ap (λ (i : ℕ). LoopAt (record { id = i })) (lowest_one l m)
+  one_reply (Inspects.loop p l) (Inspects.loop q m) = ap (λ (i : ℕ). Err (LoopAt (record { id = i }))) (lowest_one l m)
   one_reply (Inspects.loop p l) (Inspects.faulty d _) = absurd (some_loop d.no_loop l)
   one_reply (Inspects.loop p l) (Inspects.ruled d _ _) = absurd (some_loop d.no_loop l)
   one_reply (Inspects.faulty d _) (Inspects.refused q) = let z : ◌≡◌ {A = ℕ} 0 1 = cc d.whole in absurd (omega arith)
@@ -29,11 +29,11 @@ module _ (s t : List ℕ) where
   one_reply (Inspects.ruled d f _) (Inspects.faulty e g) = let z : ◌≡◌ {A = ℕ} 0 1 = cc in absurd (omega arith)
   one_reply (Inspects.ruled d f x) (Inspects.ruled e g y) = ap (reply_of (sheet_in s t).depth) (first_is_one x y)
 
-  pub keeps_accepted : KeepsAll s t → Inspects s t (Accepted (record { depth = (sheet_in s t).depth }))
+  pub keeps_accepted : KeepsAll s t → Inspects s t (Ok (record { depth = (sheet_in s t).depth }))
   keeps_accepted k = Inspects.ruled k.taken k.sound (keeps_none _ k.each)
 
   -- whatever is accepted keeps all the rules
-  accepted_keeps : {r : Inspection} {depth : ℕ} → Inspects s t r → r ≡ Accepted (record { depth = depth }) → KeepsAll s t
+  accepted_keeps : {r : Inspection} {depth : ℕ} → Inspects s t r → r ≡ Ok (record { depth = depth }) → KeepsAll s t
   accepted_keeps (Inspects.refused p) e = let z : ◌≡◌ {A = ℕ} 0 1 = cc in absurd (omega arith)
   accepted_keeps (Inspects.loop p l) e = let z : ◌≡◌ {A = ℕ} 0 1 = cc in absurd (omega arith)
   accepted_keeps (Inspects.faulty d f) e = let z : ◌≡◌ {A = ℕ} 0 1 = cc in absurd (omega arith)
@@ -46,5 +46,5 @@ module _ (s t : List ℕ) where
   accepted_keeps (Inspects.ruled {x = Found.broken Rule.depth} d f x) e = let z : ◌≡◌ {A = ℕ} 0 1 = cc in absurd (omega arith)
 
   -- "accepts or refuses": accepted exactly if the sheet keeps all the rules
-  pub accepted_exactly : {depth : ℕ} → Inspects s t (Accepted (record { depth = depth })) → KeepsAll s t
+  pub accepted_exactly : {depth : ℕ} → Inspects s t (Ok (record { depth = depth })) → KeepsAll s t
   accepted_exactly i = accepted_keeps i refl

@@ -1,41 +1,43 @@
 -- From the table taken to the promise: refusals and loops are the reply; else the arrays hold the table, and what is said of the sheet by the
 -- arrays is said of it by the bytes.
 use Prim.Native.Nat.{ℕ}
-use mathlib.Core.Path.{◌≡◌, sym, subst}
+use native.Mathlib.Omega.{arith}
+use mathlib.Core.Path.{◌≡◌, refl, ap, sym, subst, ◌∙◌}
 use mathlib.Core.List.{List, Memᴰ}
 use lib.ListN.{length, take}
 use Rattle.std.specs.Prelude.{Err}
-use Rattle.storage.specs.declared.Node.{Node}
 use Rattle.storage.specs.declared.Numbers.{Numbers}
 use Rattle.storage.specs.Drawings.{net_in, tables_in}
 use Rattle.theory.specs.paper.Net.{Net, Gate}
 use Rattle.theory.proofs.Cones.{cone_table_same}
-use Rattle.drawing.specs.declared.Refusal.{Refusal}
 use Rattle.drawing.specs.paper.Fields.{head_k, head_i}
 use Rattle.drawing.specs.paper.Table.{net_of, tables_of}
 use Rattle.drawing.specs.paper.Reading.{found, table_of, nodes_of}
 use Rattle.drawing.specs.Reading.{arrays_of}
 use Rattle.drawing.proofs.SoundTables.{table_sound}
+use Rattle.taking.specs.declared.TakeError.{TakeError}
 use Rattle.taking.specs.declared.TakeError.TheVariants as taking
-use Rattle.taking.specs.paper.Says.{Says}
+use Rattle.taking.specs.paper.Says.{Taking, Says}
 use Rattle.taking.specs.Judged.{Ready}
-use Rattle.taking.proofs.Judged.{TakenAs, refused_verdict, loop_said}
+use Rattle.taking.proofs.Judged.{TakenAs}
 use Rattle.sheet.specs.paper.Sheet.{Sheet}
 use Rattle.sheet.specs.paper.Rules.{Rule, Keeps, rules_of}
-use Rattle.inspecting.specs.declared.Inspection.{Inspection}
-use Rattle.inspecting.specs.declared.Inspection.TheVariants as inspection
-use Rattle.inspecting.specs.paper.Inspecting.{sheet_in, Inspects}
-use Rattle.inspecting.specs.Holding.{Replies, TableLaid, SheetRuled}
+use Rattle.inspecting.specs.declared.InspectError.{InspectError}
+use Rattle.inspecting.specs.paper.Inspecting.{Inspection, sheet_in, Inspects}
+use Rattle.inspecting.specs.Holding.{take_error, Replies, TableLaid, SheetRuled}
 use Rattle.sheet.proofs.Firsts.{first_as}
 
 -- Refusals and loops
 
-module _ (t : List ℕ) {s : List ℕ} where
-  pub says_refused : {x : Refusal} → Says s (Err (taking.Refused x)) → Inspects s t (inspection.Refused x)
-  says_refused said = Inspects.refused (refused_verdict said)
-
-  pub says_loop : {g : Node} → Says s (Err (taking.LoopAt g)) → Inspects s t (inspection.LoopAt g)
-  says_loop said = let (whole, loop) = loop_said said in Inspects.loop whole loop
+pub says_untaken : (t : List ℕ) {s : List ℕ} {u : TakeError} {e : InspectError} → e ≡ take_error u → Says s (Err u) → Inspects s t (Err e)
+says_untaken t {s} {u} {e} is said = by said refl
+  where
+    by : {r : Taking} → Says s r → r ≡ Err u → Inspects s t (Err e)
+    by (Says.refused {x = x} faulty) same =
+        let z : u ≡ taking.Refused x = cc in subst (λ (y : InspectError). Inspects s t (Err y)) (sym (is ∙ ap take_error z)) (Inspects.refused faulty)
+    by (Says.loop {g = g} whole loop) same =
+        let z : u ≡ taking.LoopAt g = cc in subst (λ (y : InspectError). Inspects s t (Err y)) (sym (is ∙ ap take_error z)) (Inspects.loop whole loop)
+    by (Says.taken _) same = let z : ◌≡◌ {A = ℕ} 0 1 = cc in absurd (omega arith)
 
 -- A table taken
 

@@ -15,9 +15,37 @@ use Rattle.sheet.specs.Shape.{due_from}
 use Rattle.sheet.specs.paper.Rules.{Rule, Found, FirstBroken, Keeps, labels_of, lut_rules, gates, rules_of}
 use Rattle.sheet.specs.Arrays.{HoldsLuts}
 use Rattle.shaping.specs.declared.terms.Terms.{Terms}
-use Rattle.inspecting.specs.declared.Inspection.{Inspection}
-use Rattle.inspecting.specs.declared.Inspection.TheVariants.{Shape}
-use Rattle.inspecting.specs.paper.Inspecting.{reply_of}
+use Rattle.taking.specs.declared.TakeError.{TakeError}
+use Rattle.taking.specs.declared.TakeError.TheVariants as taking
+use Rattle.judging.specs.declared.Broken.{Broken}
+use Rattle.judging.specs.declared.Broken.TheVariants as broken
+use Rattle.weighing.specs.declared.luts.LutFault.{LutFault}
+use Rattle.weighing.specs.declared.luts.LutFault.TheVariants as lut-fault
+use Rattle.weighing.specs.declared.whole.WholeFault.{WholeFault}
+use Rattle.weighing.specs.declared.whole.WholeFault.TheVariants as whole-fault
+use Rattle.inspecting.specs.declared.InspectError.{InspectError}
+use Rattle.inspecting.specs.declared.InspectError.TheVariants.{Refused, LoopAt, Shape, Cut, Label, Paths, Cover, Function, Depth}
+use Rattle.inspecting.specs.paper.Inspecting.{Inspection, reply_of}
+
+-- why a table is not taken, as the inspector says it; arrays that are too short are never lent
+abbrev pub take_error : TakeError → InspectError
+take_error (taking.Refused x) = Refused x
+take_error (taking.LoopAt g) = LoopAt g
+take_error taking.TooShort = Depth
+
+-- and what passes two, three and four find broken
+abbrev pub gate_error : Broken → InspectError
+gate_error (broken.Cut g) = Cut g
+gate_error (broken.Label g) = Label g
+gate_error (broken.Paths g) = Paths g
+
+abbrev pub lut_error : LutFault → InspectError
+lut_error (lut-fault.Cut g) = Cut g
+lut_error (lut-fault.Function g) = Function g
+
+abbrev pub whole_error : WholeFault → InspectError
+whole_error (whole-fault.Cover g) = Cover g
+whole_error whole-fault.Depth = Depth
 
 -- what a sheet is read for, as `due_in` says it of a table's bytes
 abbrev pub due_for : (k inputs nodes : ℕ) → Due
@@ -80,7 +108,7 @@ pub record RulesAsked (k inputs nodes number : ℕ) (fanins rows outputs order t
 
 -- What is said of a sheet's bytes, for the drawing that the arrays hold: pass one, then the first rule broken.
 pub data SheetRuled (k inputs nodes : ℕ) (fanins rows outputs t : List ℕ) : Inspection → Type 0 where
-  faulty : {f : Fault} → (reading (due_for k inputs nodes) t).ruling ≡ Err f → SheetRuled k inputs nodes fanins rows outputs t (Shape f)
+  faulty : {f : Fault} → (reading (due_for k inputs nodes) t).ruling ≡ Err f → SheetRuled k inputs nodes fanins rows outputs t (Err (Shape f))
   ruled : {r : Inspection} → (reading (due_for k inputs nodes) t).ruling ≡ Ok tt →
       Replies (Keeps (net_in inputs nodes fanins) (tables_in rows) k outputs (reading (due_for k inputs nodes) t).sheet)
       (rules_of (net_in inputs nodes fanins) (reading (due_for k inputs nodes) t).sheet) (reading (due_for k inputs nodes) t).sheet.depth r →

@@ -2,6 +2,7 @@
 #![tactic(auto)]
 
 pub mod answers;
+mod errors;
 
 ghost use Rattle.std.specs.Prelude.{ℕ, ◌≤◌, length, take, ◌≡◌, List};
 ghost use Rattle.storage.specs.Drawings.{net_in};
@@ -19,15 +20,14 @@ use shaping::{Terms, judge_shape, load_sheet};
 use sheet::limits::MOST_DEPTH;
 use sheet::{Fault, narrow_form};
 use storage::{Label, Net, Node, Numbers};
-use taking::{TakeError, take_table};
-use weighing::luts::{LutFault, judge_luts};
-use weighing::whole::{WholeFault, judge_whole};
+use taking::take_table;
+use weighing::luts::judge_luts;
+use weighing::whole::judge_whole;
 
-// What the inspector says: the depth of a sheet that keeps all rules; the table's refusal; the lowest gate on a loop; the fault in the
-// sheet's shape; or the first rule that is broken, with its gate. Depth names no gate.
+// Why a sheet is not accepted: the table's refusal; the lowest gate on a loop; the fault in the sheet's shape; or the first rule that is
+// broken, with its gate. Depth names no gate.
 #[derive(Clone, Copy)]
-pub enum Inspection {
-    Accepted(Label),
+pub enum InspectError {
     Refused(Refusal),
     LoopAt(Node),
     Shape(Fault),
@@ -50,7 +50,7 @@ fn judge_last(
     tables: &[u64],
     head: Label,
     roles: &mut [u8],
-) -> Inspection
+) -> Result<Label, InspectError>
     requires { LastAsked net.numbers.k.leaves net.numbers.inputs net.numbers.nodes net.numbers.roots
         net.fanins.now rows.now outputs.now net.order.now labels.now luts.now cuts.now tables.now head.depth roles.old }
     ensures { LastRuled net.entry.numbers.k.leaves net.entry.numbers.inputs net.entry.numbers.nodes net.entry.fanins.now rows.now
@@ -58,30 +58,20 @@ fn judge_last(
         head.depth result }
 {
     let mut values = [0u64; MOST_NODES];
-    let third = judge_luts(net, rows, luts, cuts, tables, roles, &mut values);
-    match third {
-        Err(LutFault::Cut(root)) => Inspection::Cut(root),
-        Err(LutFault::Function(root)) => Inspection::Function(root),
-        Ok(()) => {
-            let mut depths = [0u16; MOST_NODES];
-            let fourth = judge_whole(
-                net.numbers,
-                net.order,
-                luts,
-                cuts,
-                outputs,
-                labels,
-                head,
-                roles,
-                &mut depths,
-            );
-            match fourth {
-                Err(WholeFault::Cover(gate)) => Inspection::Cover(gate),
-                Err(WholeFault::Depth) => Inspection::Depth,
-                Ok(()) => Inspection::Accepted(head),
-            }
-        }
-    }
+    judge_luts(net, rows, luts, cuts, tables, roles, &mut values)?;
+    let mut depths = [0u16; MOST_NODES];
+    judge_whole(
+        net.numbers,
+        net.order,
+        luts,
+        cuts,
+        outputs,
+        labels,
+        head,
+        roles,
+        &mut depths,
+    )?;
+    Ok(head)
 }
 
 // What a sheet for a table with these numbers is read by.
@@ -118,7 +108,7 @@ fn judge_lines(
 
 // A sheet of sound shape is loaded once, and all later passes read the arrays: pass two, and for the paths of a line its bytes; then three
 // and four.
-fn judge_rules(net: Net, rows: &[u64], outputs: &[u16], sheet: &[u8]) -> Inspection
+fn judge_rules(net: Net, rows: &[u64], outputs: &[u16], sheet: &[u8]) -> Result<Label, InspectError>
     requires { RulesAsked net.numbers.k.leaves net.numbers.inputs net.numbers.nodes net.numbers.roots
         net.fanins.now rows.now outputs.now net.order.now sheet.now }
     ensures { SheetRuled net.entry.numbers.k.leaves net.entry.numbers.inputs net.entry.numbers.nodes net.entry.fanins.now rows.now
@@ -140,34 +130,27 @@ fn judge_rules(net: Net, rows: &[u64], outputs: &[u16], sheet: &[u8]) -> Inspect
         &mut lut_cuts,
         &mut tables,
     );
-    let second = judge_lines(net, &labels, &cuts, &places, sheet);
+    judge_lines(net, &labels, &cuts, &places, sheet)?;
     let mut roles = [0u8; MOST_NODES];
-    match second {
-        Err(Broken::Cut(gate)) => Inspection::Cut(gate),
-        Err(Broken::Label(gate)) => Inspection::Label(gate),
-        Err(Broken::Paths(gate)) => Inspection::Paths(gate),
-        Ok(()) => judge_last(
-            net, rows, outputs, &labels, &luts, &lut_cuts, &tables, head, &mut roles,
-        ),
-    }
+    judge_last(
+        net, rows, outputs, &labels, &luts, &lut_cuts, &tables, head, &mut roles,
+    )
 }
 
 // Pass one, then the others, for a table that was taken.
-fn judge_sheet(net: Net, rows: &[u64], outputs: &[u16], sheet: &[u8]) -> Inspection
+fn judge_sheet(net: Net, rows: &[u64], outputs: &[u16], sheet: &[u8]) -> Result<Label, InspectError>
     requires { TableLaid net.numbers.k.leaves net.numbers.inputs net.numbers.nodes net.numbers.roots
         net.fanins.now rows.now outputs.now net.order.now }
     ensures { SheetRuled net.entry.numbers.k.leaves net.entry.numbers.inputs net.entry.numbers.nodes net.entry.fanins.now rows.now
         (take net.entry.numbers.roots outputs.now) sheet.now result }
 {
-    match judge_shape(terms_for(net.numbers), sheet) {
-        Err(fault) => Inspection::Shape(fault),
-        Ok(()) => judge_rules(net, rows, outputs, sheet),
-    }
+    judge_shape(terms_for(net.numbers), sheet)?;
+    judge_rules(net, rows, outputs, sheet)
 }
 
-// A gate table and a sheet, judged: replies 1 to 7 for a bad table, then the four passes. Everything stands in arrays for the largest
+// A gate table and a sheet, judged, and the depth of a sheet that keeps all rules: replies 1 to 7 for a bad table, then the four passes. Everything stands in arrays for the largest
 // table, 15,296 bytes in all, so none is too short and nothing is asked of the caller.
-pub fn inspect(table: &[u8], sheet: &[u8]) -> Inspection
+pub fn inspect(table: &[u8], sheet: &[u8]) -> Result<Label, InspectError>
     ensures { Inspects table.now sheet.now result }
 {
     let mut fanins = [0u16; MOST_PLACES];
@@ -175,28 +158,18 @@ pub fn inspect(table: &[u8], sheet: &[u8]) -> Inspection
     let mut outputs = [0u16; MOST_OUTPUTS];
     let mut order = [0u16; MOST_NODES];
     let mut marks = [0u8; MOST_NODES];
-    let taken = take_table(
+    let numbers = take_table(
         table,
         &mut fanins,
         &mut rows,
         &mut outputs,
         &mut order,
         &mut marks,
-    );
-    match taken {
-        Err(TakeError::Refused(refusal)) => Inspection::Refused(refusal),
-        Err(TakeError::LoopAt(gate)) => Inspection::LoopAt(gate),
-        // never given: the arrays have the lengths that `take_table` asks
-        Err(TakeError::TooShort) => Inspection::Depth,
-        Ok(numbers) => judge_sheet(
-            Net {
-                numbers,
-                fanins: &fanins,
-                order: &order,
-            },
-            &rows,
-            &outputs,
-            sheet,
-        ),
-    }
+    )?;
+    let net = Net {
+        numbers,
+        fanins: &fanins,
+        order: &order,
+    };
+    judge_sheet(net, &rows, &outputs, sheet)
 }

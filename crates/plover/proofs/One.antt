@@ -11,7 +11,7 @@ use Rattle.mapping.specs.declared.MapError.{MapError}
 use Rattle.mapping.specs.paper.Maps as mapper
 use Rattle.mapping.specs.paper.Maps.{MapsTo}
 use Rattle.mapping.proofs.Mapped.{with_sheet, OneReply, maps_one}
-use Rattle.inspecting.specs.declared.Inspection.{Inspection}
+use Rattle.inspecting.specs.paper.Inspecting.{Inspection}
 use Rattle.inspecting.specs.paper.Inspecting as inspector
 use Rattle.inspecting.proofs.Replies.{one_reply}
 use Rattle.compiling.specs.declared.CompileError.{CompileError}

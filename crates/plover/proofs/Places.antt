@@ -27,9 +27,8 @@ use Rattle.keeping.proofs.Tables.{bounded, outputs_are_nodes, nodes_few, nodes_a
 use Rattle.mapping.specs.declared.MapError.{MapError}
 use Rattle.mapping.specs.paper.Maps as mapper
 use Rattle.mapping.specs.paper.Maps.{Maps, MapsTo}
-use Rattle.inspecting.specs.declared.Inspection.{Inspection}
 use Rattle.inspecting.specs.paper.Inspecting as inspector
-use Rattle.inspecting.specs.paper.Inspecting.{Inspects, due_in, sheet_in, reply_of}
+use Rattle.inspecting.specs.paper.Inspecting.{Inspection, Inspects, due_in, sheet_in, reply_of}
 use Rattle.inspecting.proofs.Places.{fault_place, depth_most}
 use Rattle.inspecting.proofs.Sound.{roots_rise}
 use Rattle.grammar.specs.paper.Grammar.{System}

@@ -10,8 +10,8 @@ use Rattle.sheet.specs.Shape as shape
 use Rattle.mapping.specs.declared.MapError.{MapError}
 use Rattle.mapping.specs.declared.MapError.TheVariants as mapped
 use Rattle.mapping.specs.paper.Maps as mapper
-use Rattle.inspecting.specs.declared.Inspection.{Inspection}
-use Rattle.inspecting.specs.declared.Inspection.TheVariants.{Accepted, Refused, LoopAt, Shape, Cut, Label, Paths, Cover, Function, Depth}
+use Rattle.inspecting.specs.paper.Inspecting.{Inspection}
+use Rattle.inspecting.specs.declared.InspectError.TheVariants.{Refused, LoopAt, Shape, Cut, Label, Paths, Cover, Function, Depth}
 use Rattle.inspecting.specs.paper.Inspecting as inspector
 use Rattle.compiling.specs.declared.CompileError.{CompileError}
 use Rattle.compiling.specs.declared.CompileError.TheVariants as compiling
@@ -36,16 +36,16 @@ fault_most (Range at) = omega arith
 fault_most (Extra at) = omega arith
 
 inspect_number : (r : Inspection) → inspector.number r < half
-inspect_number (Accepted depth) = omega arith
-inspect_number (Refused r) = omega (arith, number_most r)
-inspect_number (LoopAt gate) = omega arith
-inspect_number (Shape fault) = omega (arith, fault_most fault)
-inspect_number (Cut gate) = omega arith
-inspect_number (Label gate) = omega arith
-inspect_number (Paths gate) = omega arith
-inspect_number (Cover gate) = omega arith
-inspect_number (Function gate) = omega arith
-inspect_number Depth = omega arith
+inspect_number (Ok depth) = omega arith
+inspect_number (Err (Refused r)) = omega (arith, number_most r)
+inspect_number (Err (LoopAt gate)) = omega arith
+inspect_number (Err (Shape fault)) = omega (arith, fault_most fault)
+inspect_number (Err (Cut gate)) = omega arith
+inspect_number (Err (Label gate)) = omega arith
+inspect_number (Err (Paths gate)) = omega arith
+inspect_number (Err (Cover gate)) = omega arith
+inspect_number (Err (Function gate)) = omega arith
+inspect_number (Err Depth) = omega arith
 
 equations_number : (r : Result ℕ CompileError) → compiler.number r < half
 equations_number (Ok n) = omega arith

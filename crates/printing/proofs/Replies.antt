@@ -12,8 +12,7 @@ use Rattle.wording.proofs.Filled.{refused_as}
 use Rattle.mapping.specs.declared.MapError.{MapError}
 use Rattle.mapping.specs.paper.Maps as mapper
 use Rattle.mapping.specs.paper.Maps.{Maps}
-use Rattle.inspecting.specs.declared.Inspection.{Inspection}
-use Rattle.inspecting.specs.paper.Inspecting.{Inspects}
+use Rattle.inspecting.specs.paper.Inspecting.{Inspection, Inspects}
 use Rattle.printing.specs.paper.Reports.{line_of, Reports}
 use Rattle.printing.specs.paper.Draws.{shown_of, refusal_of, Draws}
 

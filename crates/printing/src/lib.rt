@@ -9,22 +9,23 @@ ghost use Rattle.printing.specs.paper.Reports.{line_of, Reports};
 ghost use Rattle.printing.specs.paper.Draws.{Draws};
 
 use inspecting::answers::{number_of_inspection, place_of_inspection};
-use inspecting::{Inspection, inspect};
+use inspecting::{InspectError, inspect};
 use mapping::answers::{number_of_reply, place_of_reply};
 use mapping::map;
+use storage::Label;
 use wording::{write_accepted, write_refused};
 
 // Room for the longest line.
 pub const LINE_ROOM: usize = 53;
 
 // The line of the inspector's reply.
-fn write_reply(reply: Inspection, text: &mut [u8]) -> usize
+fn write_reply(reply: Result<Label, InspectError>, text: &mut [u8]) -> usize
     requires { line_room ≤ length text.old }
     ensures { Wrote text.old (line_of reply) result text.new }
 {
     match reply {
-        Inspection::Accepted(depth) => write_accepted(depth, text),
-        _ => write_refused(
+        Ok(depth) => write_accepted(depth, text),
+        Err(_) => write_refused(
             number_of_inspection(reply),
             place_of_inspection(reply),
             text,

@@ -23,9 +23,7 @@ use Rattle.keeping.specs.paper.Same.{SameButEvidence}
 use Rattle.mapping.specs.declared.MapError.{MapError}
 use Rattle.taking.specs.paper.Says.{room_number}
 use Rattle.mapping.specs.paper.Maps.{Maps, said, number, place}
-use Rattle.inspecting.specs.declared.Inspection.{Inspection}
-use Rattle.inspecting.specs.declared.Inspection.TheVariants.{Accepted}
-use Rattle.inspecting.specs.paper.Inspecting.{Inspects, KeepsAll, KeepsIn, rules_in, due_in, sheet_in, reply_of}
+use Rattle.inspecting.specs.paper.Inspecting.{Inspection, Inspects, KeepsAll, KeepsIn, rules_in, due_in, sheet_in, reply_of}
 use Rattle.inspecting.specs.paper.Inspecting as inspection
 
 abbrev pub SomeLoop : List ℕ → Type 0
@@ -102,12 +100,12 @@ Demand2 = (s before : List ℕ) (r : Result ℕ MapError) (after : List ℕ) →
 -- DEMAND 3. "For any table taken and any sheet, whoever drew it up: if the inspector accepts, the sheet's LUTs compute every output as the gates
 -- do, and no K-LUT cover of that drawing has a smaller depth."
 abbrev pub Demand3Right : Type 0
-Demand3Right = (s t : List ℕ) (depth : ℕ) → Inspects s t (Accepted (record { depth = depth })) →
+Demand3Right = (s t : List ℕ) (depth : ℕ) → Inspects s t (Ok (record { depth = depth })) →
     Right (drawn s) (tables_of (table_of s)) (head_k s) (roots_of s) (sheet_in s t) × (depth ≡ (sheet_in s t).depth)
 
 -- "It accepts every sheet that keeps the printed rules"
 abbrev pub Demand3Accepts : Type 0
-Demand3Accepts = (s t : List ℕ) (r : Inspection) → KeepsAll s t → Inspects s t r → r ≡ Accepted (record { depth = (sheet_in s t).depth })
+Demand3Accepts = (s t : List ℕ) (r : Inspection) → KeepsAll s t → Inspects s t r → r ≡ Ok (record { depth = (sheet_in s t).depth })
 
 -- "and the mapper's own sheet is one, for each table taken with a sheet buffer of 49,152 bytes or more."
 abbrev pub Demand3Mapper : Type 0
@@ -115,4 +113,4 @@ Demand3Mapper = (s before : List ℕ) (r : Result ℕ MapError) (after : List �
 
 -- "no acceptable sheet is longer than 43,554", whatever bytes the inspector is given.
 abbrev pub Demand3Length : Type 0
-Demand3Length = (s t : List ℕ) (depth : ℕ) → Inspects s t (Accepted (record { depth = depth })) → length t ≤ longest_sheet
+Demand3Length = (s t : List ℕ) (depth : ℕ) → Inspects s t (Ok (record { depth = depth })) → length t ≤ longest_sheet

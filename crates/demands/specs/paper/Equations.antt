@@ -1,7 +1,7 @@
 -- The demands on typed equations, over the promise of `compile` (`Compiles`), those of `map` and `inspect`, and the words of grammar and theory: "prove that the
 -- text is accepted exactly by the written grammar, and that the gate table gives each output its equation's value". What is compiled is a table that `map`
 -- takes, so the three demands hold of typed equations.
-use Rattle.std.specs.Prelude.{ℕ, ◌≤◌, ◌<◌, ◌≡◌, ◌↔◌, ◌⊎◌, Bool, List, length, get_or, take, drop, Result}
+use Rattle.std.specs.Prelude.{ℕ, ◌≤◌, ◌<◌, ◌≡◌, ◌↔◌, ◌⊎◌, Bool, List, length, get_or, take, drop, Result, Ok}
 use Rattle.theory.specs.paper.Walk.{LowestLoop}
 use Rattle.theory.specs.paper.Lookup.{ObeysLuts}
 use Rattle.drawing.specs.paper.Table.{net_of, tables_of}
@@ -26,7 +26,6 @@ use Rattle.keeping.specs.paper.Right.{Right}
 use Rattle.mapping.specs.declared.MapError.{MapError}
 use Rattle.mapping.specs.paper.Maps as mapping
 use Rattle.mapping.specs.paper.Maps.{Maps}
-use Rattle.inspecting.specs.declared.Inspection.TheVariants.{Accepted}
 use Rattle.inspecting.specs.paper.Inspecting.{Inspects, sheet_in}
 
 -- "Refusals, in order: 41 text too long, at 8,192, else not in the grammar or nested too deep, at the end of its longest beginning that some well-formed text
@@ -79,7 +78,7 @@ pub record TableWritten (s : List ℕ) (k : ℕ) (bytes : List ℕ) : Type 0 whe
   pub mapped : (before : List ℕ) (q : Result ℕ MapError) (after : List ℕ) → Maps bytes before q after → sheet_room ≤ length before →
       (mapping.number q ≡ 0) × Serves s k says (sheet_in bytes (take (mapping.place q) after))
   -- and those of every sheet that `inspect` accepts for them
-  pub inspected : (sheet : List ℕ) (depth : ℕ) → Inspects bytes sheet (Accepted (record { depth = depth })) → Serves s k says (sheet_in bytes sheet)
+  pub inspected : (sheet : List ℕ) (depth : ℕ) → Inspects bytes sheet (Ok (record { depth = depth })) → Serves s k says (sheet_in bytes sheet)
 
 pub record EquationsAnswered (s : List ℕ) (k : ℕ) (before : List ℕ) (r : Result ℕ CompileError) (after : List ℕ) : Type 0 where
   pub replies : CompilerReplies s k before r after

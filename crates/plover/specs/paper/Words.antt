@@ -3,7 +3,7 @@
 use Rattle.std.specs.Prelude.{ℕ, ◌+◌, ◌*◌, ◌<◌, ◌≡◌, List, Result}
 use Rattle.mapping.specs.declared.MapError.{MapError}
 use Rattle.mapping.specs.paper.Maps as mapper
-use Rattle.inspecting.specs.declared.Inspection.{Inspection}
+use Rattle.inspecting.specs.paper.Inspecting.{Inspection}
 use Rattle.inspecting.specs.paper.Inspecting as inspector
 use Rattle.compiling.specs.declared.CompileError.{CompileError}
 use Rattle.compiling.specs.paper.Compiles as compiler
