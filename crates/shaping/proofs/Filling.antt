@@ -1,19 +1,16 @@
 -- Arrays filled from one entry to another: entry by entry, run by run, and for nodes one at a time.
 use Prim.Native.Nat.{ℕ, ◌+◌, ◌*◌, ◌-◌, ◌/◌, ◌%◌, ◌<◌, ◌≤◌}
 use native.Mathlib.Omega.{arith}
-use mathlib.Core.Path.{◌≡◌, refl, ap, sym, subst, ◌∙◌}
+use mathlib.Core.Path.{◌≡◌, refl, ap, sym, ◌∙◌}
 use mathlib.Core.List.{List}
 use lib.ListN.{length, get_or, set, length-set}
 use lib.Seq.{get_or-set_same, get_or-set_other, ext_get_or}
 use native.Mathlib.Decide.{dec_le}
 use Rattle.theory.specs.paper.Values.{bit}
-use Rattle.drawing.specs.paper.Bytes.{number_at, ids_at}
-use Rattle.drawing.specs.Bytes.{SmallAt}
-use Rattle.sheet.specs.paper.Sheet.{Line, Lut, no_line}
-use Rattle.sheet.specs.paper.Shape.{Due, line_at, lut_at}
+use Rattle.sheet.specs.paper.Sheet.{Line, Lut}
 use Rattle.sheet.specs.paper.Rules.{line_of_node, is_listed, leaves_listed, table_listed}
-use Rattle.shaping.specs.Loading.{Filled, counted, sevens, place_of, LineArrays, line_arrays, LineRoom, LinePut}
-use Rattle.shaping.specs.Loading.{LinesFilled, Listed, none_listed, lut_listed, listed_at, LutArrays, lut_arrays}
+use Rattle.shaping.specs.Loading.{Filled, counted, sevens, place_of, LineArrays, LineRoom, LinePut}
+use Rattle.shaping.specs.Loading.{LinesFilled, Listed, listed_at, LutArrays}
 use Rattle.shaping.specs.Loading.{LutRoom, LutPut, LutsFilled}
 
 module _ (before : List ℕ) (low : ℕ) (f : ℕ → ℕ) where
@@ -164,40 +161,4 @@ module _ {luts : List Lut} where
         luts = omega (arith, few, room.luts, one.luts.as_long);
         cuts = omega (arith, few, room.cuts, one.cuts.as_long);
         tables = omega (arith, few, room.tables, one.tables.as_long);
-      }
-
--- the stores of one node are its line, or its LUT
-module _ (s : List ℕ) (width v : ℕ) {cuts cuts' : List ℕ}
-    (bare : Filled cuts (7 * v) (7 * v + 7) (λ i. get_or (counted (ids_at s 0 width 0)) (i - 7 * v) 0) cuts') where
-  pub no_line_put : {labels places : List ℕ} → LinePut no_line 0 v (line_arrays labels cuts places) (line_arrays (set labels v 0) cuts' (set places v 0))
-  no_line_put = record { labels = refl; cuts = bare; places = refl }
-
-  pub no_lut_put : {luts tables : List ℕ} → LutPut none_listed v (lut_arrays luts cuts tables) (lut_arrays (set luts v 0) cuts' (set tables v 0))
-  no_lut_put = record { luts = refl; cuts = bare; tables = refl }
-
-module _ (due : Due) (s : List ℕ) (at v : ℕ) {count : ℕ} (count-read : SmallAt s (at + 3 + due.form.width) 1 count) {cuts cuts' : List ℕ}
-    (put :
-    Filled cuts (7 * v) (7 * v + 7)
-    (λ i. get_or (counted (ids_at s (at + 3 + due.form.width + 1) due.form.width count)) (i - 7 * v) 0) cuts') where
-  as_read : Filled cuts (7 * v) (7 * v + 7) (λ i. get_or (counted (line_at due s at).leaves) (i - 7 * v) 0) cuts'
-  as_read =
-      subst
-      (λ (n : ℕ).
-      Filled cuts (7 * v) (7 * v + 7)
-      (λ i. get_or (counted (ids_at s (at + 3 + due.form.width + 1) due.form.width n)) (i - 7 * v) 0) cuts')
-      count-read.number put
-
-  pub line_put : {label : ℕ} → SmallAt s (at + 3) due.form.width label → {labels places : List ℕ} →
-      LinePut (line_at due s at) at v (line_arrays labels cuts places) (line_arrays (set labels v label) cuts' (set places v at))
-  line_put labelled {labels} {places} = record { labels = ap (set labels v) labelled.number; cuts = as_read; places = refl }
-
-  pub lut_put : {table : ℕ} → table ≡ number_at s (at + 3 + due.form.width + 1 + count * due.form.width) 8 → {luts tables : List ℕ} →
-      LutPut (lut_listed (lut_at due s at)) v (lut_arrays luts cuts tables) (lut_arrays (set luts v 1) cuts' (set tables v table))
-  lut_put rows {luts} {tables} =
-      record {
-        luts = refl;
-        cuts = as_read;
-        tables =
-            ap (set tables v)
-            (rows ∙ ap (λ (n : ℕ). number_at s (at + 3 + due.form.width + 1 + n * due.form.width) 8) count-read.number);
       }

@@ -1,6 +1,6 @@
 -- The ids of a cut: one of them, whether they rise, and the range rules of leaves.
 use Prim.Native.Nat.{ℕ, zero, suc, ◌+◌, ◌*◌, ◌-◌, ◌<◌, ◌≤◌}
-use native.Mathlib.Nat.{zero-mul, one-mul, suc-mul, add-mul, mul-le-mul_right}
+use native.Mathlib.Nat.{zero-mul, one-mul, suc-mul, add-mul}
 use native.Mathlib.Omega.{arith}
 use mathlib.Core.Path.{◌≡◌, ap, sym, ◌∙◌}
 use mathlib.Core.Bool.{Bool, true, false, not}
@@ -11,9 +11,6 @@ use Rattle.drawing.specs.paper.Bytes.{number_at, ids_at, some_from}
 use Rattle.drawing.specs.Bytes.{SmallAt}
 use Rattle.drawing.proofs.Ids.{length_ids, ids_none, ids_step}
 use Rattle.sheet.specs.paper.Shape.{Due, rising, leaves_range, leaves_at}
-
-pub id_inside : (width count i : ℕ) → i < count → i * width + width ≤ count * width
-id_inside width count i less = omega (arith, suc-mul i width, mul-le-mul_right {m = suc i} {n = count} width (omega (arith, less)))
 
 module _ (s : List ℕ) where
   -- one id of a list, and none behind it

@@ -1,13 +1,13 @@
 -- The tests on a field's value, one after the other as the code makes them: a line's, and where a LUT's table stands.
-use Prim.Native.Nat.{ℕ, ◌+◌, ◌*◌, ◌<◌, ◌≤◌}
+use Prim.Native.Nat.{ℕ, ◌+◌, ◌*◌, ◌≤◌}
 use native.Mathlib.Omega.{arith}
 use mathlib.Core.Path.{◌≡◌, refl, ap, sym, ◌∙◌}
-use mathlib.Core.Bool.{Bool, true, false, not, ◌||◌, not-not}
+use mathlib.Core.Bool.{Bool, true, false, not, ◌||◌}
 use mathlib.Core.List.{List}
-use borrow.Author.Tests.{lt-ltb, le-ltb, ltb-false, eqb-true, not-true, not-false}
+use borrow.Author.Tests.{le-ltb, ltb-false, eqb-true, not-true, not-false}
 use lib.ListN.{length}
 use lib.Dec.{ltb, eqb}
-use Rattle.drawing.specs.paper.Bytes.{number_at, length_at}
+use Rattle.drawing.specs.paper.Bytes.{number_at}
 use Rattle.drawing.specs.Bytes.{SmallAt}
 use Rattle.sheet.specs.paper.Shape.{Due, end_at, paths_use, leaves_range, leaves_at, leaves_end, line_cut}
 use Rattle.sheet.specs.paper.Shape.{line_paths, line_at, line_range, line_length_wrong, lut_cut}
@@ -20,32 +20,6 @@ or_none true b e = absurd (let z : ◌≡◌ {A = ℕ} 0 1 = cc in omega arith)
 or_none false b e = (refl, e)
 
 module _ (due : Due) (s : List ℕ) (at : ℕ) where
-  -- a line: its length
-  pub line_torn : length_at s at < due.form.width + 1 → false ≡ not (line_length_wrong due s at)
-  line_torn short = rw (lt-ltb (end_at s at) (line_cut due s at + 1) (omega arith))
-
-  module _ {c : ℕ} (some : due.form.width + 1 ≤ length_at s at) (cut : SmallAt s (at + 3 + due.form.width) 1 c) where
-    paths_at_lem : at + 3 + (due.form.width + 1 + c * due.form.width) ≡ line_paths due s at
-    paths_at_lem = omega (arith, ap (λ (n : ℕ). n * due.form.width) cut.number)
-
-    pub line_short : length_at s at < due.form.width + 1 + c * due.form.width + 1 → false ≡ not (line_length_wrong due s at)
-    line_short short =
-        rw
-        (le-ltb (end_at s at) (line_cut due s at + 1) (omega arith), lt-ltb (end_at s at) (line_paths due s at + 1) (omega (arith, paths_at_lem)))
-
-    pub line_used : due.form.width + 1 + c * due.form.width + 1 ≤ length_at s at →
-        {q : ℕ} → SmallAt s (at + 3 + (due.form.width + 1 + c * due.form.width)) 1 q →
-        {size : ℕ} → size ≡ length_at s at →
-        {used : Bool} → used ≡ paths_use s (at + 3 + (due.form.width + 1 + c * due.form.width) + 1) due.form.width q (at + 3 + size) →
-        used ≡ not (line_length_wrong due s at)
-    line_used long {q} counted sized told =
-        let same_q : q ≡ number_at s (line_paths due s at) 1 = counted.number ∙ ap (λ (n : ℕ). number_at s n 1) paths_at_lem in
-        rw
-        (le-ltb (end_at s at) (line_cut due s at + 1) (omega arith), le-ltb (end_at s at) (line_paths due s at + 1) (omega (arith, paths_at_lem)))
-        (told
-        ∙ (λ i. paths_use s (paths_at_lem i + 1) due.form.width (same_q i) (at + 3 + sized i))
-        ∙ sym (not-not (paths_use s (line_paths due s at + 1) due.form.width (number_at s (line_paths due s at) 1) (end_at s at))))
-
   -- where the parts of a line of right length stand
   pub record LineParts : Type 0 where
     pub cut : line_cut due s at + 1 ≤ end_at s at
@@ -68,9 +42,6 @@ module _ (due : Due) (s : List ℕ) (at : ℕ) where
   module _ {c : ℕ} (cut : SmallAt s (at + 3 + due.form.width) 1 c) where
     q_at : at + 3 + due.form.width + 1 + c * due.form.width ≡ line_paths due s at
     q_at = omega (arith, ap (λ (n : ℕ). n * due.form.width) cut.number)
-
-    pub q_inside : LineParts → at + 3 + due.form.width + 1 + c * due.form.width + 1 ≤ end_at s at
-    q_inside parts = omega (arith, q_at, parts.paths)
 
     module _ {q : ℕ} (counted : SmallAt s (at + 3 + due.form.width + 1 + c * due.form.width) 1 q) where
       same_q : q ≡ number_at s (line_paths due s at) 1
