@@ -27,12 +27,12 @@ use Rattle.labelling.specs.Evidence.{EvidenceAsked, EvidenceFound}
 use Rattle.sheet.specs.declared.Form.{Form}
 use Rattle.sheet.specs.paper.Sheet.{line_of, no_line}
 use Rattle.sheet.specs.paper.Encoding.{line_field}
-use Rattle.sheet.specs.Writing.{Written, part}
+use Rattle.sheet.specs.Writing.{Room, Written}
 use Rattle.sheet.specs.Longest.{Backed, Drawing, line_most}
 use Rattle.sheet.proofs.Numbers.{flat_more}
 use Rattle.sheet.proofs.Longest.{line_short}
 use Rattle.sheet.proofs.Writes.{then, written_as, same_size}
-use Rattle.mapping.specs.Lines.{CutAsked, ProvenAsked, LineAsked, LinesAsked, LineOf, LineWritten, LinesWritten}
+use Rattle.mapping.specs.Lines.{ProvenAsked, LineAsked, LinesAsked, LineOf, LineWritten, LinesWritten}
 
 -- whether evidence is due, told by the label and p
 module _ {net : Net} {lab : ℕ → ℕ} {t label p : ℕ} {r : Bool} (is : label ≡ lab t) (known : p ≡ peak net lab t)
@@ -83,25 +83,21 @@ module _ {form : Form} {inputs nodes k : ℕ} {fanins order : List ℕ} {t : ℕ
   unfolding net_in
   room m few = omega (arith, asked.room)
 
-  -- the line as it is written, with the cut's size from its place
-  module _ (label : ℕ) {size : ℕ} (is-size : size ≡ size_at cuts t) where
+  -- the line as it is written, with the cut's leaves from their place
+  module _ (label : ℕ) {leaves : List ℕ} (lent : leaves ≡ list_at cuts t) where
     pub cut_asked : (paths : List (List ℕ)) → Backed (net_in inputs nodes fanins) k (label_in labels) t paths →
-        CutAsked form label cuts (7 * t + 1) size paths sheet at
+        Room sheet at (line_field form (line_of label leaves paths))
     cut_asked paths backed =
-        record {
-          inside = omega (arith, cut_places.0, cut_places.1);
-          room =
-              subst (λ (n : ℕ). at + length (line_field form (line_of label (part cuts (7 * t + 1) n) paths)) ≤ length sheet) (sym is-size)
-              (room (length (line_field form (line_of label (list_at cuts t) paths))) (short label backed));
-        }
+        subst (λ (l : List ℕ). at + length (line_field form (line_of label l paths)) ≤ length sheet) (sym lent)
+        (room (length (line_field form (line_of label (list_at cuts t) paths))) (short label backed))
 
     module _ (is : label ≡ label_in labels t) {after : List ℕ} {r : ℕ} where
-      sized : (paths : List (List ℕ)) → Written sheet at (line_field form (line_of label (part cuts (7 * t + 1) size) paths)) after r →
+      sized : (paths : List (List ℕ)) → Written sheet at (line_field form (line_of label leaves paths)) after r →
           Written sheet at (line_field form (line_of label (list_at cuts t) paths)) after r
-      sized paths w = written_as (ap (λ (n : ℕ). line_field form (line_of label (part cuts (7 * t + 1) n) paths)) is-size) w
+      sized paths w = written_as (ap (λ (l : List ℕ). line_field form (line_of label l paths)) lent) w
 
       pub bare_written : (Owes (net_in inputs nodes fanins) (label_in labels) t → ⊥) →
-          Written sheet at (line_field form (line_of label (part cuts (7 * t + 1) size) [])) after r →
+          Written sheet at (line_field form (line_of label leaves [])) after r →
           LineWritten form (net_in inputs nodes fanins) k labels cuts t sheet at after r
       bare_written none w =
           record {
@@ -113,7 +109,7 @@ module _ {form : Form} {inputs nodes k : ℕ} {fanins order : List ℕ} {t : ℕ
 
       pub proven_written : {paths : List (List ℕ)} → Owes (net_in inputs nodes fanins) (label_in labels) t →
           Evidence (net_in inputs nodes fanins) k (label_in labels) t paths →
-          Written sheet at (line_field form (line_of label (part cuts (7 * t + 1) size) paths)) after r →
+          Written sheet at (line_field form (line_of label leaves paths)) after r →
           LineWritten form (net_in inputs nodes fanins) k labels cuts t sheet at after r
       proven_written {paths} owes evidence w =
           record {
@@ -125,7 +121,7 @@ module _ {form : Form} {inputs nodes k : ℕ} {fanins order : List ℕ} {t : ℕ
 
     module _ (owes : Owes (net_in inputs nodes fanins) (label_in labels) t) where
       pub proven_asked : {roles' links' : List ℕ} → EvidenceFound inputs nodes k fanins labels t roles links roles' links' →
-          ProvenAsked form inputs nodes k label cuts (7 * t + 1) size links' sheet at
+          ProvenAsked form inputs nodes k label leaves links' sheet at
       proven_asked {links' = links'} found =
           record {
             read = record {
@@ -135,7 +131,7 @@ module _ {form : Form} {inputs nodes k : ℕ} {fanins order : List ℕ} {t : ℕ
             };
             few = asked.arrays.drawing.k_small;
             count = found.evidence.count;
-            cut = cut_asked (paths_in inputs nodes links') (Backed.proven owes.some found.evidence);
+            room = cut_asked (paths_in inputs nodes links') (Backed.proven owes.some found.evidence);
           }
 
   pub evidence_asked : Owes (net_in inputs nodes fanins) (label_in labels) t → EvidenceAsked inputs nodes k fanins order labels t roles links

@@ -1,5 +1,5 @@
 -- LUTs written one by one are the fields of the LUTs of all marked nodes, roots rising.
-use Prim.Native.Nat.{ℕ, zero, suc, ◌+◌, ◌*◌, ◌≤◌, ◌<◌}
+use Prim.Native.Nat.{ℕ, zero, suc, ◌+◌, ◌≤◌, ◌<◌}
 use native.Mathlib.Numerals.{add-one}
 use native.Mathlib.Decide.{dec_lt}
 use native.Mathlib.Omega.{arith}
@@ -9,11 +9,11 @@ use mathlib.Core.List.{List, [], ◌∷◌, ◌++◌, map, flat_map, map-append,
 use lib.ListN.{length, get_or, length-append}
 use borrow.Author.Tests.{eq-eqb, ne_eqb}
 use Rattle.flow.specs.Numbers.{those}
-use Rattle.storage.specs.Lists.{size_at}
+use Rattle.storage.specs.Lists.{list_at}
 use Rattle.sheet.specs.declared.Form.{Form}
 use Rattle.sheet.specs.paper.Sheet.{lut_of}
 use Rattle.sheet.specs.paper.Encoding.{lut_field}
-use Rattle.sheet.specs.Writing.{Room, Written, part}
+use Rattle.sheet.specs.Writing.{Room, Written}
 use Rattle.sheet.proofs.Numbers.{flat_append}
 use Rattle.sheet.proofs.Writes.{then, written_as, same_size}
 use Rattle.settling.specs.Arrays.{is_marked, lut_in, luts_below}
@@ -65,18 +65,18 @@ module _ (form : Form) (cuts luts tables : List ℕ) where
     unfolding fields_at
     lut_none sheet at other = written_as (sym (unmarked other)) (record { stored = refl; reached = omega arith })
 
-    module _ (one : get_or luts v 0 ≡ 1) {size : ℕ} (is : size ≡ size_at cuts v) where
-      lut_field_lem : lut_field form (lut_of v (part cuts (7 * v + 1) size) (get_or tables v 0)) ≡ fields_at v
+    module _ (one : get_or luts v 0 ≡ 1) {leaves : List ℕ} (lent : leaves ≡ list_at cuts v) where
+      lut_field_lem : lut_field form (lut_of v leaves (get_or tables v 0)) ≡ fields_at v
       lut_field_lem =
-          ap (λ (n : ℕ). lut_field form (lut_of v (part cuts (7 * v + 1) n) (get_or tables v 0))) is ∙ sym (marked one)
+          ap (λ (l : List ℕ). lut_field form (lut_of v l (get_or tables v 0))) lent ∙ sym (marked one)
 
       pub lut_room_lem : {sheet : List ℕ} {at : ℕ} → LutAsked form v cuts luts tables sheet at →
-          (7 * v + 1 + size ≤ length cuts) × Room sheet at (lut_field form (lut_of v (part cuts (7 * v + 1) size) (get_or tables v 0)))
+          Room sheet at (lut_field form (lut_of v leaves (get_or tables v 0)))
       unfolding fields_at
-      lut_room_lem asked = (omega (arith, asked.cuts_long, asked.six), omega (arith, asked.room, ap length lut_field_lem))
+      lut_room_lem asked = omega (arith, asked.room, ap length lut_field_lem)
 
       pub lut_one : {sheet : List ℕ} {at : ℕ} {after : List ℕ} {r : ℕ} →
-          Written sheet at (lut_field form (lut_of v (part cuts (7 * v + 1) size) (get_or tables v 0))) after r →
+          Written sheet at (lut_field form (lut_of v leaves (get_or tables v 0))) after r →
           Written sheet at (flat_map (lut_field form) (luts_at cuts luts tables v)) after r
       unfolding fields_at
       lut_one w = written_as lut_field_lem w

@@ -1,13 +1,11 @@
 -- Paths written one by one are the paths that stand in the links.
-use Prim.Native.Nat.{ℕ, zero, suc, ◌+◌, ◌*◌, ◌≤◌, ◌<◌}
+use Prim.Native.Nat.{ℕ, zero, suc, ◌+◌, ◌*◌, ◌-◌, ◌≤◌, ◌<◌}
 use native.Mathlib.Numerals.{add-one}
 use native.Mathlib.Omega.{arith}
 use mathlib.Core.Path.{◌≡◌, refl, ap, sym, subst, ◌∙◌}
 use mathlib.Core.List.{List, [], ◌∷◌, ◌++◌, map, flat_map}
 use lib.ListN.{length, get_or, take, drop}
 use lib.Seq.{sets, take-suc, take_all, split_at, length-sets}
-use borrow.Author.Rules.{part_to_end}
-use Rattle.storage.proofs.Rests.{rest_of, rest_length}
 use Rattle.storage.proofs.Stores.{stored_run}
 use Rattle.flow.specs.Links.{next_in}
 use Rattle.flow.specs.Paths.{onward, follow, paths_in, starts_in}
@@ -16,10 +14,10 @@ use Rattle.flow.proofs.Listing.{read_keeps_paths}
 use Rattle.sheet.specs.declared.Form.{Form}
 use Rattle.sheet.specs.paper.Sheet.{line_of}
 use Rattle.sheet.specs.paper.Encoding.{path_bytes, line_field}
-use Rattle.sheet.specs.Writing.{Room, Written, Closed, part, line_begun}
+use Rattle.sheet.specs.Writing.{Room, Written, Closed, line_begun}
 use Rattle.sheet.proofs.Writes.{then, written_as, written_more, room_first, room_then}
 use Rattle.sheet.proofs.Joins.{next_room, line_room_lem, line_written, line_ends}
-use Rattle.mapping.specs.Lines.{PathAsked, PathsAsked, CutAsked}
+use Rattle.mapping.specs.Lines.{PathAsked, PathsAsked}
 
 -- a path has no more nodes than the drawing
 follow_few : (next : ℕ → ℕ) (room v : ℕ) → length (follow next room v) ≤ room
@@ -51,10 +49,10 @@ module _ {width inputs nodes i : ℕ} {links sheet : List ℕ} {at : ℕ} (asked
   fits = omega (arith, path_few inputs nodes links i, asked.read.links_long)
 
   -- the ids that the path's reader stored
-  here : part (rest_of links' (2 * nodes)) 0 r ≡ path
+  here : take (2 * nodes + r - 2 * nodes) (drop (2 * nodes) links') ≡ path
   unfolding path
   here =
-      ap (take r) (part_to_end links' (2 * nodes))
+      ap (λ (m : ℕ). take m (drop (2 * nodes) links')) (omega arith)
       ∙ ap (λ (l : List ℕ). take r (drop (2 * nodes) l)) read.written
       ∙ ap (λ (m : ℕ). take m (drop (2 * nodes) (sets links (2 * nodes) path))) read.count
       ∙ stored_run links (2 * nodes) path fits
@@ -63,15 +61,15 @@ module _ {width inputs nodes i : ℕ} {links sheet : List ℕ} {at : ℕ} (asked
   unfolding path
   links_size = ap length read.written ∙ length-sets links (2 * nodes) path
 
-  pub path_inside : r ≤ length (rest_of links' (2 * nodes))
+  pub path_inside : 2 * nodes + r ≤ length links'
   unfolding path
-  path_inside = omega (arith, fits, read.count, links_size, rest_length links' (2 * nodes))
+  path_inside = omega (arith, fits, read.count, links_size)
 
-  pub path_room : Room sheet at (path_bytes width (part (rest_of links' (2 * nodes)) 0 r))
+  pub path_room : Room sheet at (path_bytes width (take (2 * nodes + r - 2 * nodes) (drop (2 * nodes) links')))
   unfolding path
   path_room = rw here asked.room
 
-  pub path_written : {after : List ℕ} {last : ℕ} → Written sheet at (path_bytes width (part (rest_of links' (2 * nodes)) 0 r)) after last →
+  pub path_written : {after : List ℕ} {last : ℕ} → Written sheet at (path_bytes width (take (2 * nodes + r - 2 * nodes) (drop (2 * nodes) links'))) after last →
       Written sheet at (path_bytes width (get_or (paths_in inputs nodes links) i [])) after last
   unfolding path
   path_written w = written_as (ap (path_bytes width) here) w
@@ -134,29 +132,29 @@ module _ {width inputs nodes many : ℕ} {links₀ before : List ℕ} {at : ℕ}
     paths_all done = written_as (ap (flat_map (path_bytes width)) (take_all i paths (omega (arith, asked.count)))) so_far.written
 
 -- A line: its front, its paths, its length.
-module _ (form : Form) (label : ℕ) (leaves : List ℕ) (from size : ℕ) (paths : List (List ℕ)) {sheet : List ℕ} {at : ℕ}
-    (asked : CutAsked form label leaves from size paths sheet at) (many : ℕ) (count : length paths ≡ many) where
-  whole : Room sheet at (line_begun form label (part leaves from size) (length paths) ++ flat_map (path_bytes form.width) paths)
-  whole = line_room_lem form label (part leaves from size) paths sheet at asked.room
+module _ (form : Form) (label : ℕ) (leaves : List ℕ) (paths : List (List ℕ)) (sheet : List ℕ) (at : ℕ)
+    (room : Room sheet at (line_field form (line_of label leaves paths))) (many : ℕ) (count : length paths ≡ many) where
+  whole : Room sheet at (line_begun form label leaves (length paths) ++ flat_map (path_bytes form.width) paths)
+  whole = line_room_lem form label leaves paths sheet at room
 
-  begun : line_begun form label (part leaves from size) (length paths) ≡ line_begun form label (part leaves from size) many
-  begun = ap (line_begun form label (part leaves from size)) count
+  begun : line_begun form label leaves (length paths) ≡ line_begun form label leaves many
+  begun = ap (line_begun form label leaves) count
 
-  pub front_room : Room sheet at (line_begun form label (part leaves from size) many)
+  pub front_room : Room sheet at (line_begun form label leaves many)
   front_room =
       subst (Room sheet at) begun
-      (room_first sheet at (line_begun form label (part leaves from size) (length paths)) (flat_map (path_bytes form.width) paths) whole)
+      (room_first sheet at (line_begun form label leaves (length paths)) (flat_map (path_bytes form.width) paths) whole)
 
-  module _ {middle : List ℕ} {next : ℕ} (front : Written sheet at (line_begun form label (part leaves from size) many) middle next) where
+  module _ {middle : List ℕ} {next : ℕ} (front : Written sheet at (line_begun form label leaves many) middle next) where
     pub paths_room : Room middle next (flat_map (path_bytes form.width) paths)
     paths_room = room_then (written_as (sym begun) front) (flat_map (path_bytes form.width) paths) whole
 
     module _ {last : List ℕ} {to : ℕ} (rest : Written middle next (flat_map (path_bytes form.width) paths) last to) where
       pub line_ending : (at + 3 ≤ to) × (to ≤ length last)
-      line_ending = line_ends form label (part leaves from size) paths whole (then (written_as (sym begun) front) rest)
+      line_ending = line_ends form label leaves paths whole (then (written_as (sym begun) front) rest)
 
-      pub line_done : {after : List ℕ} {r : ℕ} → Closed last at to after r → Written sheet at (line_field form (line_of label (part leaves from size) paths)) after r
-      line_done closed = line_written form label (part leaves from size) paths (then (written_as (sym begun) front) rest) closed
+      pub line_done : {after : List ℕ} {r : ℕ} → Closed last at to after r → Written sheet at (line_field form (line_of label leaves paths)) after r
+      line_done closed = line_written form label leaves paths (then (written_as (sym begun) front) rest) closed
 
 -- no paths
 pub none_written : (form : Form) (sheet : List ℕ) (at : ℕ) → Written sheet at (flat_map (path_bytes form.width) []) sheet at

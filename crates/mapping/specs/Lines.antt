@@ -11,7 +11,7 @@ use Rattle.flow.specs.Reads.{ReadAsked}
 use Rattle.sheet.specs.declared.Form.{Form}
 use Rattle.sheet.specs.paper.Sheet.{Line, line_of, no_line}
 use Rattle.sheet.specs.paper.Encoding.{path_bytes, line_field}
-use Rattle.sheet.specs.Writing.{Room, Written, part}
+use Rattle.sheet.specs.Writing.{Room, Written}
 use Rattle.sheet.specs.Longest.{line_most}
 use Rattle.sheet.specs.paper.Rules.{PathsKept}
 use Rattle.packing.specs.Tables.{Labelled}
@@ -27,19 +27,12 @@ pub record PathsAsked (width inputs nodes many : ℕ) (links sheet : List ℕ) (
   pub count : many ≡ length (paths_in inputs nodes links)
   pub room : Room sheet at (flat_map (path_bytes width) (paths_in inputs nodes links))
 
--- A line's leaves are the `size` entries from place `from` on.
-pub record CutAsked (form : Form) (label : ℕ) (leaves : List ℕ) (from size : ℕ) (paths : List (List ℕ)) (sheet : List ℕ)
-    (at : ℕ) : Type 0 where
-  pub inside : from + size ≤ length leaves
-  pub room : Room sheet at (line_field form (line_of label (part leaves from size) paths))
-
--- The K + 1 paths that stand in the links are the line's evidence.
-pub record ProvenAsked (form : Form) (inputs nodes k label : ℕ) (leaves : List ℕ) (from size : ℕ) (links sheet : List ℕ)
-    (at : ℕ) : Type 0 where
+-- The K + 1 paths that stand in the links are the line's evidence, and the line has room.
+pub record ProvenAsked (form : Form) (inputs nodes k label : ℕ) (leaves links sheet : List ℕ) (at : ℕ) : Type 0 where
   pub read : ReadAsked inputs nodes links
   pub few : k ≤ most_k
   pub count : length (paths_in inputs nodes links) ≡ suc k
-  pub cut : CutAsked form label leaves from size (paths_in inputs nodes links) sheet at
+  pub room : Room sheet at (line_field form (line_of label leaves (paths_in inputs nodes links)))
 
 -- What lines are written from: a labelled drawing, and roles and links for the search for evidence.
 pub record LinesFrom (inputs nodes k : ℕ) (fanins order labels cuts roles links : List ℕ) : Type 0 where

@@ -7,7 +7,7 @@ use area::peak;
 use labelling::evidence::find_evidence;
 use labelling::owes_evidence;
 use sheet::Form;
-use storage::lists::{PLACES, cut_size};
+use storage::lists::list_at;
 use storage::marks::label_of;
 use storage::{Net, Node};
 
@@ -29,15 +29,14 @@ fn write_line(
         net.entry.numbers.k.leaves labels.now cuts.now gate.id sheet.old at
         sheet.new result }
 {
-    let from = PLACES * (gate.id as usize) + 1;
-    let size = cut_size(cuts, gate);
+    let leaves = list_at(cuts, gate);
     let label = label_of(labels, gate);
     let p = peak(net.fanins, gate, labels);
     if !owes_evidence(p, label) {
-        return write_bare(form, label, cuts, from, size, sheet, at);
+        return write_bare(form, label, leaves, sheet, at);
     }
     find_evidence(net, gate, labels, roles, links);
-    write_proven(form, net.numbers, label, cuts, from, size, links, sheet, at)
+    write_proven(form, net.numbers, label, leaves, links, sheet, at)
 }
 
 // The lines of all gates, in id order.

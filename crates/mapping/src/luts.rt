@@ -7,7 +7,7 @@ ghost use Rattle.mapping.specs.Luts.{luts_at, LutAsked, LutsAsked};
 
 use sheet::{Form, put_lut};
 use storage::Node;
-use storage::lists::{PLACES, cut_size};
+use storage::lists::list_at;
 use storage::marks::is_marked;
 
 // Writes the LUT of a root; of any other node nothing.
@@ -27,9 +27,8 @@ fn write_lut(
     if !is_marked(luts, root) {
         return at;
     }
-    let size = cut_size(cuts, root);
-    let v = root.id as usize;
-    put_lut(form, sheet, at, root, cuts, PLACES * v + 1, size, tables[v])
+    let table = tables[root.id as usize];
+    put_lut(form, sheet, at, root, list_at(cuts, root), table)
 }
 
 // The LUTs of the marked nodes, roots rising.

@@ -4,12 +4,12 @@ ghost use mathlib.Core.List.{[], flat_map};
 ghost use Rattle.flow.specs.Paths.{paths_in};
 ghost use Rattle.sheet.specs.paper.Sheet.{line_of};
 ghost use Rattle.sheet.specs.paper.Encoding.{path_bytes, line_field};
-ghost use Rattle.sheet.specs.Writing.{Written, part};
-ghost use Rattle.mapping.specs.Lines.{PathAsked, PathsAsked, CutAsked, ProvenAsked};
+ghost use Rattle.sheet.specs.Writing.{Room, Written};
+ghost use Rattle.mapping.specs.Lines.{PathAsked, PathsAsked, ProvenAsked};
 
 use flow::read_path;
 use sheet::{Form, begin_line, end_line, put_path};
-use storage::{CutSize, Label, Numbers};
+use storage::{Label, Numbers};
 
 // The i-th path. Its ids are read into the third column of the links, which the paths leave free, and written from there.
 fn write_path(
@@ -28,7 +28,7 @@ fn write_path(
 {
     let count = read_path(numbers, links, i);
     let ids_at = 2 * numbers.nodes;
-    put_path(form, sheet, at, &links[ids_at..], count)
+    put_path(form, sheet, at, &links[ids_at..ids_at + count])
 }
 
 fn write_paths(
@@ -56,38 +56,26 @@ pub fn write_proven(
     numbers: Numbers,
     label: Label,
     leaves: &[u16],
-    from: usize,
-    size: CutSize,
     links: &mut [u16],
     sheet: &mut [u8],
     at: usize,
 ) -> usize
     requires { ProvenAsked form numbers.inputs numbers.nodes numbers.k.leaves label.depth
-        leaves.now from size.leaves links.old sheet.old at }
-    ensures { Written sheet.old at (line_field form (line_of label.depth (part
-        leaves.now from size.leaves) (paths_in numbers.inputs numbers.nodes
-        links.old))) sheet.new result }
+        leaves.now links.old sheet.old at }
+    ensures { Written sheet.old at (line_field form (line_of label.depth
+        leaves.now (paths_in numbers.inputs numbers.nodes links.old))) sheet.new result }
 {
     let many = numbers.k.leaves as usize + 1;
-    let paths_at = begin_line(form, sheet, at, label, leaves, from, size, many);
+    let paths_at = begin_line(form, sheet, at, label, leaves, many);
     let end = write_paths(form, numbers, many, links, sheet, paths_at);
     end_line(sheet, at, end)
 }
 
 // A line without paths.
-pub fn write_bare(
-    form: Form,
-    label: Label,
-    leaves: &[u16],
-    from: usize,
-    size: CutSize,
-    sheet: &mut [u8],
-    at: usize,
-) -> usize
-    requires { CutAsked form label.depth leaves.now from size.leaves [] sheet.old at }
-    ensures { Written sheet.old at (line_field form (line_of label.depth (part
-        leaves.now from size.leaves) [])) sheet.new result }
+pub fn write_bare(form: Form, label: Label, leaves: &[u16], sheet: &mut [u8], at: usize) -> usize
+    requires { Room sheet.old at (line_field form (line_of label.depth leaves.now [])) }
+    ensures { Written sheet.old at (line_field form (line_of label.depth leaves.now [])) sheet.new result }
 {
-    let end = begin_line(form, sheet, at, label, leaves, from, size, 0);
+    let end = begin_line(form, sheet, at, label, leaves, 0);
     end_line(sheet, at, end)
 }

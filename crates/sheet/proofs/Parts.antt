@@ -1,27 +1,17 @@
--- The ids of a part of a slice, one id more at a time.
-use Prim.Native.Nat.{ℕ, ◌+◌, ◌*◌, ◌-◌, ◌<◌, ◌≤◌}
+-- The ids of a slice, one id more at a time.
+use Prim.Native.Nat.{ℕ, ◌+◌, ◌*◌, ◌<◌, ◌≤◌}
 use mathlib.Core.Path.{◌≡◌, refl, ap, sym, ◌∙◌}
 use mathlib.Core.List.{List, ◌++◌, flat_map}
 use native.Mathlib.Nat.{add-mul, mul-le-mul_right, one-mul}
 use native.Mathlib.Numerals.{add-one}
 use native.Mathlib.Omega.{arith}
-use lib.ListN.{length, get_or, take, drop, length-take, length-drop}
+use lib.ListN.{length, get_or, take}
 use lib.Seq.{take-suc}
 use Rattle.std.proofs.lemmas.List.{take_all, length-take-le}
 use Rattle.sheet.specs.paper.Encoding.{digits, id_bytes}
-use Rattle.sheet.specs.Writing.{Room, Written, part}
+use Rattle.sheet.specs.Writing.{Room, Written}
 use Rattle.sheet.proofs.Numbers.{length_digits, length_ids, flat_more}
-use Rattle.sheet.proofs.Writes.{then, same_size, written_as, room_first, room_then}
-
-pub length_part : (s : List ℕ) (from count : ℕ) → from + count ≤ length s → length (part s from count) ≡ count
-length_part s from count inside = simp (length-take, length-drop) (omega arith)
-
-pub from_front : {count size : ℕ} → count ≤ size → 0 + count ≤ size
-from_front few = omega arith
-
--- what a slice's range holds is a part
-pub range_part : (s : List ℕ) (from count : ℕ) → take (from + count - from) (drop from s) ≡ part s from count
-range_part s from count = ap (λ (n : ℕ). take n (drop from s)) (omega arith)
+use Rattle.sheet.proofs.Writes.{then, same_size, written_as}
 
 -- what the loop over the ids keeps: the first i of them are written
 pub record IdsWritten (before : List ℕ) (at : ℕ) (ids : List ℕ) (width : ℕ) (sheet : List ℕ) (next i : ℕ) : Type 0 where
@@ -58,20 +48,3 @@ module _ {before : List ℕ} {at : ℕ} {ids : List ℕ} {width : ℕ} {sheet : 
 pub ids_all : {before : List ℕ} {at : ℕ} {ids : List ℕ} {width : ℕ} {sheet : List ℕ} {next i : ℕ} → IdsWritten before at ids width sheet next i → length ids ≤ i →
     Written before at (id_bytes width ids) sheet next
 ids_all {ids = ids} {width = width} {i = i} so_far done = written_as (ap (id_bytes width) (take_all i ids done)) so_far.written
-
--- a part's ids behind their count, which has a width of its own
-module _ (before : List ℕ) (at : ℕ) (s : List ℕ) (from count wide width : ℕ) (inside : from + count ≤ length s)
-    (room : Room before at (digits wide (length (part s from count)) ++ id_bytes width (part s from count))) where
-  same_count : digits wide (length (part s from count)) ≡ digits wide count
-  same_count = ap (digits wide) (length_part s from count inside)
-
-  pub count_room : Room before at (digits wide count)
-  count_room = rw same_count at (room_first before at (digits wide (length (part s from count))) (id_bytes width (part s from count)) room)
-
-  module _ {a : List ℕ} {i : ℕ} (w : Written before at (digits wide count) a i) where
-    pub counted_room : Room a i (id_bytes width (part s from count))
-    counted_room = room_then (written_as (sym same_count) w) (id_bytes width (part s from count)) room
-
-    pub counted_written : {b : List ℕ} {j : ℕ} → Written a i (id_bytes width (part s from count)) b j →
-        Written before at (digits wide (length (part s from count)) ++ id_bytes width (part s from count)) b j
-    counted_written x = then (written_as (sym same_count) w) x

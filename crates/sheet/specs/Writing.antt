@@ -1,5 +1,5 @@
 -- What writing into a lent buffer promises.
-use Rattle.std.specs.Prelude.{ℕ, ◌+◌, ◌-◌, ◌≤◌, ◌≡◌, List, [], ◌∷◌, ◌++◌, length, take, drop}
+use Rattle.std.specs.Prelude.{ℕ, ◌+◌, ◌-◌, ◌≤◌, ◌≡◌, List, [], ◌∷◌, ◌++◌, length}
 use Rattle.std.proofs.lemmas.List.Edits.{sets}
 use Rattle.drawing.specs.paper.Limits.{length_size}
 use Rattle.drawing.specs.paper.Bytes.{value_at}
@@ -14,10 +14,6 @@ Room buffer at bytes = at + length bytes ≤ length buffer
 pub record Written (before : List ℕ) (at : ℕ) (bytes after : List ℕ) (next : ℕ) : Type 0 where
   pub stored : after ≡ sets before at bytes
   pub reached : next ≡ at + length bytes
-
--- `count` entries of a slice, from place `from` on
-abbrev pub part : List ℕ → (from count : ℕ) → List ℕ
-part s from count = take count (drop from s)
 
 -- A field whose length is not known yet: its two bytes are 0 until the value is whole.
 abbrev pub opened : (tag : ℕ) → List ℕ

@@ -2,11 +2,10 @@
 ghost use Rattle.std.specs.Prelude.{◌+◌, ◌≤◌, length};
 ghost use Rattle.drawing.specs.paper.Bytes.{value_at};
 ghost use Rattle.sheet.specs.paper.Encoding.{digits, id_bytes, leaves_bytes};
-ghost use Rattle.sheet.specs.Writing.{Room, Written, Closed, part, opened};
+ghost use Rattle.sheet.specs.Writing.{Room, Written, Closed, opened};
 
 use crate::limits::COUNT_SIZE;
 use drawing::limits::{FRAME, LENGTH_SIZE};
-use storage::CutSize;
 
 // A number in `width` bytes, high byte first. The low byte is stored first, at the last place.
 pub fn put_number(sheet: &mut [u8], at: usize, number: u64, width: usize) -> usize
@@ -21,41 +20,25 @@ pub fn put_number(sheet: &mut [u8], at: usize, number: u64, width: usize) -> usi
     at + width
 }
 
-// `count` ids of a slice, from entry `from` on.
-pub fn put_ids(
-    sheet: &mut [u8],
-    at: usize,
-    ids: &[u16],
-    from: usize,
-    count: usize,
-    width: usize,
-) -> usize
-    requires count_in_bounds { from + count ≤ length ids.now }
-    requires room { Room sheet.old at (id_bytes width (part ids.now from count)) }
-    ensures { Written sheet.old at (id_bytes width (part ids.now from count)) sheet.new result }
+// Ids, one behind the other.
+pub fn put_ids(sheet: &mut [u8], at: usize, ids: &[u16], width: usize) -> usize
+    requires { Room sheet.old at (id_bytes width ids.now) }
+    ensures { Written sheet.old at (id_bytes width ids.now) sheet.new result }
 {
     let mut next = at;
-    for &id in &ids[from..from + count] {
+    for &id in ids {
         next = put_number(sheet, next, id as u64, width);
     }
     next
 }
 
 // A cut: how many leaves, and the leaves.
-pub fn put_leaves(
-    sheet: &mut [u8],
-    at: usize,
-    leaves: &[u16],
-    from: usize,
-    size: CutSize,
-    width: usize,
-) -> usize
-    requires leaves_in_bounds { from + size.leaves ≤ length leaves.now }
-    requires room { Room sheet.old at (leaves_bytes width (part leaves.now from size.leaves)) }
-    ensures { Written sheet.old at (leaves_bytes width (part leaves.now from size.leaves)) sheet.new result }
+pub fn put_leaves(sheet: &mut [u8], at: usize, leaves: &[u16], width: usize) -> usize
+    requires { Room sheet.old at (leaves_bytes width leaves.now) }
+    ensures { Written sheet.old at (leaves_bytes width leaves.now) sheet.new result }
 {
-    let ids_at = put_number(sheet, at, size.leaves as u64, COUNT_SIZE);
-    put_ids(sheet, ids_at, leaves, from, size.leaves as usize, width)
+    let ids_at = put_number(sheet, at, leaves.len() as u64, COUNT_SIZE);
+    put_ids(sheet, ids_at, leaves, width)
 }
 
 // A field's tag, and room for its length.

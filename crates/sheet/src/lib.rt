@@ -9,11 +9,11 @@ ghost use Rattle.std.specs.Prelude.{◌≡◌, ◌+◌, ◌≤◌, length};
 ghost use Rattle.drawing.specs.paper.Bytes.{value_at};
 ghost use Rattle.sheet.specs.paper.Sheet.{lut_of};
 ghost use Rattle.sheet.specs.paper.Encoding.{narrow, head_field, path_bytes, lut_field};
-ghost use Rattle.sheet.specs.Writing.{Room, Written, Closed, part, line_begun};
+ghost use Rattle.sheet.specs.Writing.{Room, Written, Closed, line_begun};
 
 use crate::limits::{COUNT_SIZE, HEAD, LINE, LUT, VERSION_SIZE};
 use drawing::limits::{ID_SIZE, ROWS_SIZE, VERSION};
-use storage::{CutSize, Label, Node};
+use storage::{Label, Node};
 
 // The tags of a sheet's fields, and in how many bytes it writes an id; depths, labels, LUT counts and path lengths are as wide.
 #[derive(Clone, Copy)]
@@ -61,37 +61,33 @@ pub fn put_head(form: Form, sheet: &mut [u8], depth: Label, luts: usize) -> usiz
     bytes::close_field(sheet, 0, next)
 }
 
-// A gate's line up to its paths, of which `paths` are to follow. The leaves are the `size` entries of the slice from `from` on.
+// A gate's line up to its paths, of which `paths` are to follow.
 pub fn begin_line(
     form: Form,
     sheet: &mut [u8],
     at: usize,
     label: Label,
     leaves: &[u16],
-    from: usize,
-    size: CutSize,
     paths: usize,
 ) -> usize
-    requires leaves_in_bounds { from + size.leaves ≤ length leaves.now }
-    requires room { Room sheet.old at (line_begun form label.depth (part leaves.now from size.leaves) paths) }
-    ensures { Written sheet.old at (line_begun form label.depth (part leaves.now from size.leaves) paths) sheet.new result }
+    requires { Room sheet.old at (line_begun form label.depth leaves.now paths) }
+    ensures { Written sheet.old at (line_begun form label.depth leaves.now paths) sheet.new result }
 {
     let width = form.width;
     let label_at = bytes::open_field(sheet, at, form.line);
     let leaves_at = bytes::put_number(sheet, label_at, label.depth as u64, width);
-    let paths_at = bytes::put_leaves(sheet, leaves_at, leaves, from, size, width);
+    let paths_at = bytes::put_leaves(sheet, leaves_at, leaves, width);
     bytes::put_number(sheet, paths_at, paths as u64, COUNT_SIZE)
 }
 
-// One path of a line: the first `count` entries of the slice.
-pub fn put_path(form: Form, sheet: &mut [u8], at: usize, path: &[u16], count: usize) -> usize
-    requires count_in_bounds { count ≤ length path.now }
-    requires room { Room sheet.old at (path_bytes form.width (part path.now 0 count)) }
-    ensures { Written sheet.old at (path_bytes form.width (part path.now 0 count)) sheet.new result }
+// One path of a line.
+pub fn put_path(form: Form, sheet: &mut [u8], at: usize, path: &[u16]) -> usize
+    requires { Room sheet.old at (path_bytes form.width path.now) }
+    ensures { Written sheet.old at (path_bytes form.width path.now) sheet.new result }
 {
     let width = form.width;
-    let ids_at = bytes::put_number(sheet, at, count as u64, width);
-    bytes::put_ids(sheet, ids_at, path, 0, count, width)
+    let ids_at = bytes::put_number(sheet, at, path.len() as u64, width);
+    bytes::put_ids(sheet, ids_at, path, width)
 }
 
 // Stores the length of the line begun at `at`, whose last path ends at `next`.
@@ -103,25 +99,22 @@ pub fn end_line(sheet: &mut [u8], at: usize, next: usize) -> usize
     bytes::close_field(sheet, at, next)
 }
 
-// A LUT. Its leaves are the `size` entries of the slice from `from` on.
+// A LUT.
 pub fn put_lut(
     form: Form,
     sheet: &mut [u8],
     at: usize,
     root: Node,
     leaves: &[u16],
-    from: usize,
-    size: CutSize,
     table: u64,
 ) -> usize
-    requires leaves_in_bounds { from + size.leaves ≤ length leaves.now }
-    requires room { Room sheet.old at (lut_field form (lut_of root.id (part leaves.now from size.leaves) table)) }
-    ensures { Written sheet.old at (lut_field form (lut_of root.id (part leaves.now from size.leaves) table)) sheet.new result }
+    requires { Room sheet.old at (lut_field form (lut_of root.id leaves.now table)) }
+    ensures { Written sheet.old at (lut_field form (lut_of root.id leaves.now table)) sheet.new result }
 {
     let width = form.width;
     let root_at = bytes::open_field(sheet, at, form.lut);
     let leaves_at = bytes::put_number(sheet, root_at, root.id as u64, width);
-    let table_at = bytes::put_leaves(sheet, leaves_at, leaves, from, size, width);
+    let table_at = bytes::put_leaves(sheet, leaves_at, leaves, width);
     let next = bytes::put_number(sheet, table_at, table, ROWS_SIZE);
     bytes::close_field(sheet, at, next)
 }

@@ -6,10 +6,10 @@ use Rattle.mapping.proofs.LinesWritten.{owes_so, owes_not, gate_low, line_fed, c
 use Rattle.mapping.proofs.LinesWritten.{bare_written, proven_written, evidence_asked, proven_asked}
 use Rattle.mapping.proofs.lines.write_line.Goals as goal
 
-pub cut_size-size-requires : goal.cut_size-size-requires
-cut_size-size-requires c =
+pub list_at-leaves-requires : goal.list_at-leaves-requires
+list_at-leaves-requires c =
     let places = cut_places c.requires in
-    record { id_in_bounds = omega (arith, places.0); id_bound = places.1 }
+    record { id_in_bounds = omega (arith, places.0); size_bound = places.1 }
 
 pub label_of-label-requires : goal.label_of-label-requires
 label_of-label-requires c =
@@ -21,7 +21,7 @@ peak-p-requires c =
 
 pub write_bare-requires : goal.write_bare-requires
 write_bare-requires c =
-    cut_asked c.requires c.label_of-label.result.depth c.cut_size-size.ensures [] Backed.bare
+    cut_asked c.requires c.label_of-label.result.depth c.list_at-leaves.ensures [] Backed.bare
 
 pub returns-then-not-owes_evidence : goal.returns-then-not-owes_evidence
 returns-then-not-owes_evidence c =
@@ -29,7 +29,7 @@ returns-then-not-owes_evidence c =
     let known = c.peak-p.ensures c.args.net.numbers.inputs c.args.net.numbers.nodes (gate_low p) in
     let none = owes_not c.label_of-label.ensures known c.owes_evidence.ensures
     c.if-not-owes_evidence.true in
-    bare_written p c.label_of-label.result.depth c.cut_size-size.ensures c.label_of-label.ensures none
+    bare_written p c.label_of-label.result.depth c.list_at-leaves.ensures c.label_of-label.ensures none
     c.write_bare.ensures
 
 pub find_evidence-requires : goal.find_evidence-requires
@@ -46,7 +46,7 @@ write_proven-requires c =
     let known = c.peak-p.ensures c.args.net.numbers.inputs c.args.net.numbers.nodes (gate_low p) in
     let owes = owes_so c.label_of-label.ensures known c.owes_evidence.ensures
     c.if-not-owes_evidence.false in
-    proven_asked p c.label_of-label.result.depth c.cut_size-size.ensures owes
+    proven_asked p c.label_of-label.result.depth c.list_at-leaves.ensures owes
     c.find_evidence.ensures
 
 pub returns : goal.returns
@@ -55,5 +55,5 @@ returns c =
     let known = c.peak-p.ensures c.args.net.numbers.inputs c.args.net.numbers.nodes (gate_low p) in
     let owes = owes_so c.label_of-label.ensures known c.owes_evidence.ensures
     c.if-not-owes_evidence.false in
-    proven_written p c.label_of-label.result.depth c.cut_size-size.ensures c.label_of-label.ensures owes
+    proven_written p c.label_of-label.result.depth c.list_at-leaves.ensures c.label_of-label.ensures owes
     c.find_evidence.ensures.evidence c.write_proven.ensures

@@ -13,21 +13,17 @@ returns-then-not-is_marked c =
     lut_none a.form a.cuts.now a.luts.now a.tables.now a.root.id a.sheet.now a.at
     (c.is_marked.ensures.no c.if-not-is_marked.true)
 
-pub cut_size-size-requires : goal.cut_size-size-requires
-cut_size-size-requires c =
-    record { id_in_bounds = omega (arith, c.requires.cuts_long); id_bound = c.requires.six }
-
-pub bounds-tables-v : goal.bounds-tables-v
-bounds-tables-v c =
-    c.requires.tables_long
+pub list_at-requires : goal.list_at-requires
+list_at-requires c =
+    record { id_in_bounds = omega (arith, c.requires.cuts_long); size_bound = c.requires.six }
 
 pub put_lut-requires : goal.put_lut-requires
 put_lut-requires c =
     let a = c.args in
     let one =
-    c.is_marked.ensures.yes c.if-not-is_marked.false in let asked =
+    c.is_marked.ensures.yes c.if-not-is_marked.false in
     lut_room_lem a.form a.cuts.now a.luts.now a.tables.now a.root.id one
-    c.cut_size-size.ensures c.requires in record { leaves_in_bounds = asked.0; room = asked.1 }
+    c.list_at.ensures c.requires
 
 pub returns : goal.returns
 returns c =
@@ -35,4 +31,4 @@ returns c =
     let one =
     c.is_marked.ensures.yes c.if-not-is_marked.false in
     lut_one a.form a.cuts.now a.luts.now a.tables.now a.root.id one
-    c.cut_size-size.ensures c.put_lut.ensures
+    c.list_at.ensures c.put_lut.ensures

@@ -11,11 +11,8 @@ begin_line-paths_at-requires c =
     let a = c.args in
     let p = c.requires in
     let paths = paths_in a.numbers.inputs a.numbers.nodes a.links.now in
-    let count = p.count ∙ sym (add-one a.numbers.k.leaves) in record {
-      leaves_in_bounds = p.cut.inside;
-      room = front_room a.form a.label.depth a.leaves.now a.from a.size.leaves paths p.cut
-          (a.numbers.k.leaves + 1) count;
-    }
+    let count = p.count ∙ sym (add-one a.numbers.k.leaves) in
+    front_room a.form a.label.depth a.leaves.now paths a.sheet.now a.at p.room (a.numbers.k.leaves + 1) count
 
 pub write_paths-end-requires : goal.write_paths-end-requires
 write_paths-end-requires c =
@@ -27,7 +24,7 @@ write_paths-end-requires c =
       read = p.read;
       count = sym count;
       room =
-          paths_room a.form a.label.depth a.leaves.now a.from a.size.leaves paths p.cut
+          paths_room a.form a.label.depth a.leaves.now paths a.sheet.now a.at p.room
           (a.numbers.k.leaves + 1) count c.begin_line-paths_at.ensures;
     }
 
@@ -37,7 +34,7 @@ end_line-requires c =
     let p = c.requires in
     let paths = paths_in a.numbers.inputs a.numbers.nodes a.links.now in
     let count = p.count ∙ sym (add-one a.numbers.k.leaves) in let asked =
-    line_ending a.form a.label.depth a.leaves.now a.from a.size.leaves paths p.cut
+    line_ending a.form a.label.depth a.leaves.now paths a.sheet.now a.at p.room
     (a.numbers.k.leaves + 1) count c.begin_line-paths_at.ensures
     c.write_paths-end.ensures in record { at_bound = asked.0; next_in_bounds = asked.1 }
 
@@ -47,6 +44,6 @@ returns c =
     let p = c.requires in
     let paths = paths_in a.numbers.inputs a.numbers.nodes a.links.now in
     let count = p.count ∙ sym (add-one a.numbers.k.leaves) in
-    line_done a.form a.label.depth a.leaves.now a.from a.size.leaves paths p.cut
+    line_done a.form a.label.depth a.leaves.now paths a.sheet.now a.at p.room
     (a.numbers.k.leaves + 1) count c.begin_line-paths_at.ensures
     c.write_paths-end.ensures c.end_line.ensures
