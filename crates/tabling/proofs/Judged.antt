@@ -5,17 +5,14 @@ use native.Mathlib.Omega.{arith}
 use mathlib.Core.Path.{◌≡◌, sym, subst, ◌∙◌}
 use mathlib.Core.List.{List}
 use lib.ListN.{length}
-use Rattle.std.specs.Prelude.{Ok, Err}
+use Rattle.std.specs.Prelude.{Ok}
 use Rattle.theory.specs.paper.Net.{Net}
 use Rattle.theory.specs.paper.Walk.{LowestLoop, NoLoop}
-use Rattle.storage.specs.declared.Node.{Node}
 use Rattle.storage.specs.declared.Numbers.{Numbers}
-use Rattle.drawing.specs.declared.Refusal.{Refusal}
 use Rattle.drawing.specs.paper.Limits.{most_nodes, most_outputs}
 use Rattle.drawing.specs.paper.Table.{Table, net_of}
 use Rattle.drawing.specs.Reading.{arrays_of, most_places}
 use Rattle.drawing.proofs.Verdicts.{not_sound}
-use Rattle.taking.specs.declared.TakeError.TheVariants.{Refused, LoopAt, TooShort}
 use Rattle.taking.specs.Taking.{Takes}
 use Rattle.taking.specs.paper.Says.{Taking, Says}
 use Rattle.taking.proofs.Judged.{says}
@@ -42,15 +39,3 @@ module _ {table : Table} (within : Within table) {fanins₀ rows₀ outputs₀ o
 pub taken_no_loop : {table : Table} {r : Taking} {n : Numbers} → Judged table r → r ≡ Ok n → NoLoop (net_of table)
 taken_no_loop (Judged.taken none) same = none
 taken_no_loop (Judged.loop _) same = let z : ◌≡◌ {A = ℕ} 0 1 = cc in absurd (omega arith)
-
-pub loop_lowest : {table : Table} {r : Taking} {g : Node} → Judged table r → r ≡ Err (LoopAt g) → LowestLoop (net_of table) g.id
-loop_lowest {table} {g = g} (Judged.loop {g = h} lowest) same = let z : h ≡ g = cc in subst (λ (u : Node). LowestLoop (net_of table) u.id) z lowest
-loop_lowest (Judged.taken _) same = let z : ◌≡◌ {A = ℕ} 0 1 = cc in absurd (omega arith)
-
-pub never_refused : {table : Table} {r : Taking} {x : Refusal} → Judged table r → r ≡ Err (Refused x) → ⊥
-never_refused (Judged.taken _) same = let z : ◌≡◌ {A = ℕ} 0 1 = cc in omega arith
-never_refused (Judged.loop _) same = let z : ◌≡◌ {A = ℕ} 0 1 = cc in omega arith
-
-pub never_short : {table : Table} {r : Taking} → Judged table r → r ≡ Err TooShort → ⊥
-never_short (Judged.taken _) same = let z : ◌≡◌ {A = ℕ} 0 1 = cc in omega arith
-never_short (Judged.loop _) same = let z : ◌≡◌ {A = ℕ} 0 1 = cc in omega arith

@@ -8,7 +8,7 @@ use lib.ListN.{length}
 use Rattle.std.specs.Prelude.{⊤, Result, Ok, Err}
 use borrow.Author.Tests.{le-leb}
 use Rattle.theory.specs.paper.Net.{Net}
-use Rattle.theory.specs.paper.Walk.{LowestLoop, NoLoop}
+use Rattle.theory.specs.paper.Walk.{NoLoop}
 use Rattle.storage.specs.declared.Node.{Node}
 use Rattle.storage.specs.declared.Numbers.{Numbers}
 use Rattle.storage.specs.Drawings.{Arranged}
@@ -164,26 +164,6 @@ module _ {fanins₀ rows₀ outputs₀ order₀ marks₀ s fanins rows outputs o
       says_not_short (Says.refused e) same = let z : ◌≡◌ {A = ℕ} 0 1 = cc in omega arith
       says_not_short (Says.loop _ _) same = let z : ◌≡◌ {A = ℕ} 0 1 = cc in omega arith
       says_not_short (Says.taken _) same = let z : ◌≡◌ {A = ℕ} 0 1 = cc in omega arith
-
--- What is said of a table that is refused
-
-pub refused_verdict : {s : List ℕ} {x : Refusal} → Says s (Err (Refused x)) → (found s).verdict ≡ Err x
-refused_verdict {s} {x} said = by said refl
-  where
-    by : {r : Taking} → Says s r → r ≡ Err (Refused x) → (found s).verdict ≡ Err x
-    by (Says.refused {x = y} e) same = let z : y ≡ x = cc in e ∙ ap Err z
-    by (Says.loop _ _) same = let z : ◌≡◌ {A = ℕ} 0 1 = cc in absurd (omega arith)
-    by (Says.taken _) same = let z : ◌≡◌ {A = ℕ} 0 1 = cc in absurd (omega arith)
-
-pub loop_said : {s : List ℕ} {g : Node} → Says s (Err (LoopAt g)) → ReadsWhole s × LowestLoop (drawn s) g.id
-loop_said {s} {g} said = by said refl
-  where
-    by : {r : Taking} → Says s r → r ≡ Err (LoopAt g) → ReadsWhole s × LowestLoop (drawn s) g.id
-    by (Says.refused e) same = let z : ◌≡◌ {A = ℕ} 0 1 = cc in absurd (omega arith)
-    by (Says.loop {g = h} e loop) same =
-        let z : h ≡ g = cc in
-        (e, subst (λ (u : Node). LowestLoop (drawn s) u.id) z loop)
-    by (Says.taken _) same = let z : ◌≡◌ {A = ℕ} 0 1 = cc in absurd (omega arith)
 
 -- the paper's numbers of a table's refusals are 1 to 6
 pub refusal_number : (x : Refusal) → (1 ≤ table.number x) × (table.number x ≤ 6)
