@@ -6,33 +6,26 @@ use mathlib.Core.Path.{◌≡◌, ap, sym, subst}
 use mathlib.Core.Bool.{Bool, cond}
 use mathlib.Core.List.{List, [], ◌∷◌, ◌++◌}
 use lib.ListN.{length}
-use lib.Seq.{take_all}
 use borrow.Author.Tests.{lt-ltb, le-ltb}
 use Rattle.drawing.specs.paper.Forms.{narrow_table}
 use Rattle.drawing.specs.paper.Table.{GateLine}
 use Rattle.sheet.specs.paper.Encoding.{digits, byte, id_bytes, field}
-use Rattle.sheet.specs.Writing.{Room, Written, part, opened}
+use Rattle.sheet.specs.Writing.{Room, Written, opened}
 use Rattle.sheet.proofs.Writes.{written_as, room_first, room_then, field_room, first_room}
 use Rattle.tabling.specs.paper.Encoding.{gate_field}
 use Rattle.tabling.specs.Gates.{gate_of, gate_for}
 
--- a gate by its fanins, which `put_ids` takes as a part: here from the first to the last
+-- a gate by its fanins
 module _ (before : List ℕ) (at : ℕ) (fanins : List ℕ) (rows : ℕ) where
-  abbrev part_value : List ℕ → List ℕ
-  part_value ids = byte (length fanins) ++ id_bytes 1 ids ++ digits 8 rows
+  abbrev line_value : List ℕ
+  line_value = byte (length fanins) ++ id_bytes 1 fanins ++ digits 8 rows
 
-  all_fanins : part fanins 0 (length fanins) ≡ fanins
-  all_fanins = take_all (length fanins) fanins (omega arith)
+  pub line_room : Room before at (gate_field narrow_table (gate_of fanins rows)) → Room before at (opened 2 ++ line_value)
+  line_room room = field_room before at 2 line_value room
 
-  pub line_room : Room before at (gate_field narrow_table (gate_of fanins rows)) →
-      Room before at (opened 2 ++ part_value (part fanins 0 (length fanins)))
-  line_room room =
-      field_room before at 2 (part_value (part fanins 0 (length fanins)))
-      (subst (λ (ids : List ℕ). Room before at (field 2 (part_value ids))) (sym all_fanins) room)
-
-  pub line_written : {after : List ℕ} {r : ℕ} → Written before at (field 2 (part_value (part fanins 0 (length fanins)))) after r →
+  pub line_written : {after : List ℕ} {r : ℕ} → Written before at (field 2 line_value) after r →
       Written before at (gate_field narrow_table (gate_of fanins rows)) after r
-  line_written w = written_as (ap (λ (ids : List ℕ). field 2 (part_value ids)) all_fanins) w
+  line_written w = w
 
 -- a gate by its table
 module _ (left right rows : ℕ) where

@@ -34,7 +34,7 @@ pub fn put_gate_line(table: &mut [u8], at: usize, fanins: &[u16], rows: u64) -> 
 {
     let count_at = bytes::open_field(table, at, GATE as u8);
     let fanins_at = bytes::put_number(table, count_at, fanins.len() as u64, COUNT_SIZE);
-    let rows_at = bytes::put_ids(table, fanins_at, fanins, 0, fanins.len(), ID_SIZE);
+    let rows_at = bytes::put_ids(table, fanins_at, fanins, ID_SIZE);
     let next = bytes::put_number(table, rows_at, rows, ROWS_SIZE);
     bytes::close_field(table, at, next)
 }

@@ -4,14 +4,13 @@ use lib.ListN.{length}
 use Rattle.sheet.specs.paper.Encoding.{digits, byte, id_bytes}
 use Rattle.sheet.proofs.Writes.{opening_room, first_room, second_room, third_room, three_written}
 use Rattle.sheet.proofs.Writes.{closing_room, closed}
-use Rattle.sheet.specs.Writing.{part}
 use Rattle.tabling.proofs.Fields.{line_room, line_written}
 use Rattle.tabling.proofs.put_gate_line.Goals as goal
 
 pub open_field-count_at-requires : goal.open_field-count_at-requires
 open_field-count_at-requires c =
     let a = c.args in
-    let fanins = id_bytes 1 (part a.fanins.now 0 (length a.fanins.now)) in
+    let fanins = id_bytes 1 a.fanins.now in
     let rows = digits 8 a.rows in
     let room = line_room a.table.now a.at a.fanins.now a.rows c.requires in
     opening_room a.table.now a.at 2 (byte (length a.fanins.now)) fanins rows room
@@ -19,15 +18,15 @@ open_field-count_at-requires c =
 pub put_number-fanins_at-requires : goal.put_number-fanins_at-requires
 put_number-fanins_at-requires c =
     let a = c.args in
-    let fanins = id_bytes 1 (part a.fanins.now 0 (length a.fanins.now)) in
+    let fanins = id_bytes 1 a.fanins.now in
     let rows = digits 8 a.rows in
     let room = line_room a.table.now a.at a.fanins.now a.rows c.requires in
     first_room a.table.now a.at 2 (byte (length a.fanins.now)) fanins rows room c.open_field-count_at.ensures
 
-pub put_ids-rows_at-requires-clause-room : goal.put_ids-rows_at-requires-clause-room
-put_ids-rows_at-requires-clause-room c =
+pub put_ids-rows_at-requires : goal.put_ids-rows_at-requires
+put_ids-rows_at-requires c =
     let a = c.args in
-    let fanins = id_bytes 1 (part a.fanins.now 0 (length a.fanins.now)) in
+    let fanins = id_bytes 1 a.fanins.now in
     let rows = digits 8 a.rows in
     let room = line_room a.table.now a.at a.fanins.now a.rows c.requires in
     second_room a.table.now a.at 2 (byte (length a.fanins.now)) fanins rows room c.open_field-count_at.ensures
@@ -36,7 +35,7 @@ put_ids-rows_at-requires-clause-room c =
 pub put_number-next-requires : goal.put_number-next-requires
 put_number-next-requires c =
     let a = c.args in
-    let fanins = id_bytes 1 (part a.fanins.now 0 (length a.fanins.now)) in
+    let fanins = id_bytes 1 a.fanins.now in
     let rows = digits 8 a.rows in
     let room = line_room a.table.now a.at a.fanins.now a.rows c.requires in
     third_room a.table.now a.at 2 (byte (length a.fanins.now)) fanins rows room c.open_field-count_at.ensures
@@ -45,7 +44,7 @@ put_number-next-requires c =
 pub close_field-requires : goal.close_field-requires
 close_field-requires c =
     let a = c.args in
-    let fanins = id_bytes 1 (part a.fanins.now 0 (length a.fanins.now)) in
+    let fanins = id_bytes 1 a.fanins.now in
     let rows = digits 8 a.rows in
     let room = line_room a.table.now a.at a.fanins.now a.rows c.requires in let asked =
     closing_room 2 (byte (length a.fanins.now) ++ fanins ++ rows)
@@ -57,7 +56,7 @@ close_field-requires c =
 pub returns : goal.returns
 returns c =
     let a = c.args in
-    let fanins = id_bytes 1 (part a.fanins.now 0 (length a.fanins.now)) in
+    let fanins = id_bytes 1 a.fanins.now in
     let rows = digits 8 a.rows in
     let room = line_room a.table.now a.at a.fanins.now a.rows c.requires in
     line_written a.table.now a.at a.fanins.now a.rows
