@@ -33,7 +33,7 @@ fn rows_of(leaves: usize) -> u64
     1u64 << leaves
 }
 
-// The row that the values of the `many` nodes from place `at` on make.
+// The row that the values of the `many` nodes from place `at` on make. (Hot: a place and a number, so that the loop is laid out where it is called.)
 fn row_of(ids: &[u16], at: usize, many: usize, values: &[u64]) -> u64
     requires { RowFits ids.now at many (length values.now) }
     ensures { result ≡ row_of (map (value_in values.now) (take many (drop at ids.now))) }

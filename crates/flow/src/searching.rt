@@ -184,6 +184,7 @@ pub fn search(net: Net, roles: &[u8], links: &mut [u16]) -> Option<Node>
 {
     clear(links, net.numbers.nodes, Column::Ins, 2);
     let mut number: u16 = 0;
+    // a sweep a turn: what it answers ends the search, or is where the next begins
     loop {
         match sweep(net, roles, links, number) {
             ControlFlow::Break(end) => return Some(end),

@@ -114,6 +114,7 @@ pub fn read_equations(
     let mut next = at;
     let mut made = 0;
     let mut listed = inputs;
+    // an equation a turn, until `out` is met
     loop {
         match read_equation(text, next, gates, made, names, listed, inputs)? {
             Turn::Equation(moved) => {

@@ -39,6 +39,7 @@ fn expression(
     ensures { ExpressionAnswer text.now nesting at gates.old made gates.new result }
 {
     let mut left = term(text, at, nesting, gates, made)?;
+    // as long as the sign stands: how often is known only at the end
     while byte_at(text, left.next) == PLUS {
         let start = skip_blanks(text, left.next + 1);
         let right = term(text, start, nesting, gates, left.made)?;
@@ -59,6 +60,7 @@ fn term(
     ensures { TermAnswer text.now nesting at gates.old made gates.new result }
 {
     let mut left = factor(text, at, nesting, gates, made)?;
+    // as long as the sign stands: how often is known only at the end
     while byte_at(text, left.next) == STAR {
         let start = skip_blanks(text, left.next + 1);
         let right = factor(text, start, nesting, gates, left.made)?;

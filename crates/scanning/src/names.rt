@@ -75,6 +75,7 @@ pub fn read_names(
 {
     let mut end = at;
     let mut count = listed;
+    // a name a turn, up to the line's end
     loop {
         match next_entry(text, end, listed < count)? {
             Entry::Name(span) => {

@@ -24,6 +24,7 @@ pub fn skip_bangs(text: &[u8], at: usize) -> Bangs
 {
     let mut next = at;
     let mut count = 0;
+    // as long as signs stand, with the blanks between them
     while byte_at(text, next) == BANG {
         next = skip_blanks(text, next + 1);
         count += 1;

@@ -49,6 +49,7 @@ fn reaches_itself(
     start(marks, numbers.inputs, numbers.nodes);
     let mut size = note_fanins(numbers, fanins, list, marks, 0, gate);
     let mut done = 0;
+    // the list grows while it is walked, so its end is no range to go over
     while done < size {
         let next = node_at(list, done);
         size = note_fanins(numbers, fanins, list, marks, size, next);

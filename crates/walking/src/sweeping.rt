@@ -67,6 +67,7 @@ pub fn sweep_all(numbers: Numbers, fanins: &[u16], order: &mut [u16], marks: &mu
 {
     let gates = numbers.nodes - numbers.inputs;
     let mut placed: usize = 0;
+    // how many sweeps there are shows only when one places none
     while placed < gates {
         let next = sweep(numbers, fanins, order, marks, placed);
         if next == placed {

@@ -78,6 +78,7 @@ fn places_of(n: u64) -> usize
 {
     let mut rest = n;
     let mut count = 1;
+    // a digit is taken off while there are more than one
     while 10 <= rest {
         rest /= 10;
         count += 1;
