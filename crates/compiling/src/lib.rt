@@ -92,11 +92,7 @@ fn compile_named(equations: Equations, k: u64, table: &mut [u8]) -> Result<usize
 }
 
 // A text in the grammar.
-fn compile_scanned(
-    equations: Equations,
-    k: u64,
-    table: &mut [u8],
-) -> Result<usize, CompileError>
+fn compile_scanned(equations: Equations, k: u64, table: &mut [u8]) -> Result<usize, CompileError>
     requires { Scanned equations.text.now equations.gates.now equations.names.now equations.counts }
     ensures { Compiles equations.entry.text.now k table.old result table.new }
 {
