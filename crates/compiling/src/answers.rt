@@ -1,4 +1,4 @@
-// Number and place of a reply, as words.
+// Number and place of a reply, as words. Two numbers of one value, each by its definition: no `From`.
 ghost use Rattle.std.specs.Prelude.{◌≡◌};
 ghost use Rattle.compiling.specs.paper.Compiles.{number, place};
 

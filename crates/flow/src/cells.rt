@@ -62,7 +62,7 @@ fn code_of(link: Link) -> u16
     }
 }
 
-// A column's start is made a slice of its own, so that a loop finds it but once.
+// A column's start is made a slice of its own, so that a loop finds it but once. `nodes` is how high a column is, and no length: five lie in one lent slice.
 pub fn at(links: &[u16], nodes: usize, column: Column, v: Node) -> u16
     requires { CellIn nodes (place column) v.id links.now }
     ensures { result ≡ get_or (columnOf nodes (place column) links.now) v.id 0 }

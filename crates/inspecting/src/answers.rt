@@ -1,4 +1,4 @@
-// The paper's number and the place of the inspector's reply, as words.
+// The paper's number and the place of the inspector's reply, as words. Two numbers of one value, each by its definition: no `From`.
 ghost use Rattle.std.specs.Prelude.{◌≡◌};
 ghost use Rattle.inspecting.specs.paper.Inspecting.{number, place};
 

@@ -10,6 +10,7 @@ use taking::TakeError;
 use weighing::luts::LutFault;
 use weighing::whole::WholeFault;
 
+// As mapping's and compiling's: each names the cases of its own error, and no function says that plainer.
 impl From<TakeError> for InspectError {
     ghost from_gives = { λ take inspect. inspect ≡ take_error take };
 

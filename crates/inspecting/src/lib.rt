@@ -148,8 +148,8 @@ fn judge_sheet(net: Net, rows: &[u64], outputs: &[u16], sheet: &[u8]) -> Result<
     judge_rules(net, rows, outputs, sheet)
 }
 
-// A gate table and a sheet, judged, and the depth of a sheet that keeps all rules: replies 1 to 7 for a bad table, then the four passes. Everything stands in arrays for the largest
-// table, 15,296 bytes in all, so none is too short and nothing is asked of the caller.
+// A gate table and a sheet, judged, and the depth of a sheet that keeps all rules: replies 1 to 7 for a bad table, then the four passes.
+// Everything stands in arrays for the largest table, 15,296 bytes in all, so none is too short and nothing is asked of the caller.
 pub fn inspect(table: &[u8], sheet: &[u8]) -> Result<Label, InspectError>
     ensures { Inspects table.now sheet.now result }
 {

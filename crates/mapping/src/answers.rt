@@ -1,4 +1,4 @@
-// The paper's number and the place of the mapper's reply, as words.
+// The paper's number and the place of the mapper's reply, as words. Two numbers of one value, each by its definition: no `From`.
 ghost use Rattle.std.specs.Prelude.{◌≡◌};
 ghost use Rattle.mapping.specs.paper.Maps.{number, place};
 

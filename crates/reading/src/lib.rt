@@ -17,6 +17,7 @@ pub fn fill<R: Read>(reader: &mut R, buffer: &mut [u8]) -> (usize, io::Result<()
     ensures end { OnOk result.1 (result.0 < length buffer.new → IsAtEnd (R.remaining reader.new)) }
 {
     let mut count = 0;
+    // a read a turn, of as many bytes as it gives
     while count < buffer.len() {
         match reader.read(&mut buffer[count..]) {
             Ok(0) => return (count, Ok(())),

@@ -1,5 +1,6 @@
 // What a node is to the gate at hand: a byte a node, with one meaning to a value. A walk leaves away, walked, met or both; the
 // marking of an area turns these into away, deep, area or end; a path that is checked takes nodes of the area.
+// Numbers and no enum: the same lent bytes are plain marks before and after (fixed memory), and `WalkMade` and `AreaMarked` speak of lists of numbers.
 ghost use Rattle.std.specs.Prelude.{◌≡◌, ◌<◌, eqb, length, get_or};
 ghost use Rattle.storage.specs.Marks.{Tells};
 ghost use Rattle.storage.specs.Roles.{met_bit, walked_in, met_in, area_in, ends_in};
