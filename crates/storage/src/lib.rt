@@ -1,6 +1,7 @@
 // What lies in slices that a caller lends: lists of ids, marks, and numbers in columns; and the words that keep node, label and cut size apart.
 #![tactic(auto)]
 
+pub mod columns;
 pub mod lists;
 pub mod marks;
 pub mod roles;

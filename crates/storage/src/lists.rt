@@ -1,7 +1,7 @@
 // Ids in an array: one after the other, as in an order or among leaves; or lists of up to six, seven places a node: how many, then the ids,
 // as fanins lie, and cuts.
 ghost use Rattle.std.specs.Prelude.{◌≡◌, ◌+◌, ◌*◌, ◌≤◌, ◌<◌, length, get_or, set};
-ghost use Rattle.storage.specs.Lists.{size_at, list_at};
+ghost use Rattle.storage.specs.Lists.{size_at, entry_at, list_at};
 
 use crate::{CutSize, Node};
 
@@ -40,6 +40,15 @@ pub fn list_at(lists: &[u16], node: Node) -> &[u16]
 {
     let at = PLACES * (node.id as usize) + 1;
     &lists[at..at + size_at(lists, node)]
+}
+
+// The i-th id of the node's list.
+pub fn entry_at(lists: &[u16], node: Node, i: usize) -> Node
+    requires i_bound { i < 6 }
+    requires id_in_bounds { 7 * node.id + 7 ≤ length lists.now }
+    ensures { result.id ≡ entry_at lists.now node.id i }
+{
+    node_at(lists, PLACES * (node.id as usize) + 1 + i)
 }
 
 // A size that is a cut's: at most six.

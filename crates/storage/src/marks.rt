@@ -1,6 +1,7 @@
 // Marks and labels: an entry a node.
-ghost use Rattle.std.specs.Prelude.{◌≡◌, max, suc, ◌<◌, length, get_or, set};
+ghost use Rattle.std.specs.Prelude.{◌≡◌, ◌++◌, max, suc, ◌≤◌, ◌<◌, length, get_or, set, drop, replicate};
 ghost use Rattle.storage.specs.Marks.{Tells};
+ghost use Rattle.storage.specs.Entries.{cleared};
 
 use crate::{Label, Node};
 
@@ -18,6 +19,21 @@ pub fn mark(marks: &mut [u8], node: Node)
 {
     let v = node.id as usize;
     marks[v] = 1;
+}
+
+// `storage::fill`, of marks.
+pub fn fill(marks: &mut [u8], size: usize, value: u8)
+    requires { size ≤ length marks.old }
+    ensures { marks.new ≡ replicate size value ++ drop size marks.old }
+{
+    crate::fill(marks, size, value);
+}
+
+pub fn clear(marks: &mut [u8], size: usize)
+    requires { size ≤ length marks.old }
+    ensures { marks.new ≡ cleared size marks.old }
+{
+    crate::fill(marks, size, 0);
 }
 
 pub fn label_of(labels: &[u16], node: Node) -> Label

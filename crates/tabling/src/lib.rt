@@ -1,6 +1,7 @@
 // The bytes of a gate table, written field by field into a buffer that the caller lends. Each function answers the next place.
 #![tactic(auto)]
 
+ghost use Rattle.std.specs.Prelude.{[], ◌∷◌};
 ghost use Rattle.drawing.specs.paper.Forms.{narrow_table};
 ghost use Rattle.sheet.specs.Writing.{Room, Written};
 ghost use Rattle.tabling.specs.paper.Encoding.{head_field, gate_field, output_field};
@@ -37,6 +38,23 @@ pub fn put_gate_line(table: &mut [u8], at: usize, fanins: &[u16], rows: u64) -> 
     let rows_at = bytes::put_ids(table, fanins_at, fanins, ID_SIZE);
     let next = bytes::put_number(table, rows_at, rows, ROWS_SIZE);
     bytes::close_field(table, at, next)
+}
+
+// A gate with one fanin.
+pub fn put_unary(table: &mut [u8], at: usize, fanin: Node, rows: u64) -> usize
+    requires { Room table.old at (gate_field narrow_table (gate_of (fanin.id ∷ []) rows)) }
+    ensures { Written table.old at (gate_field narrow_table (gate_of (fanin.id ∷ []) rows)) table.new result }
+{
+    put_gate_line(table, at, &[fanin.id], rows)
+}
+
+// A gate with two fanins.
+pub fn put_binary(table: &mut [u8], at: usize, left: Node, right: Node, rows: u64) -> usize
+    requires { Room table.old at (gate_field narrow_table (gate_of (left.id ∷ right.id ∷ []) rows)) }
+    ensures { Written table.old at (gate_field narrow_table (gate_of (left.id ∷ right.id ∷ []) rows)) table.new result }
+{
+    let fanins = [left.id, right.id];
+    put_gate_line(table, at, &fanins, rows)
 }
 
 // A gate whose table tells how many fanins it has: one where the table is one of one fanin. Then `right` is not looked at.

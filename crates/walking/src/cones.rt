@@ -12,11 +12,16 @@ use storage::Node;
 use storage::lists::list_at;
 use storage::roles::{BOTH, MET, is_met, is_walked};
 
-// Is the node among the leaves?
+// Is the node among the leaves? (Hot, and there are six of them at most: a loop is laid out where it is called, and `contains` is a call.)
 fn is_leaf(leaves: &[u16], node: Node) -> bool
     ensures { Tells (Memᴰ node.id leaves.now) result }
 {
-    leaves.contains(&node.id)
+    for id in leaves {
+        if *id == node.id {
+            return true;
+        }
+    }
+    false
 }
 
 // The node is met, and walked unless it is a leaf. (A root that is a leaf stays walked.)

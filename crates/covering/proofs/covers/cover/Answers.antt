@@ -46,7 +46,7 @@ loop-i-preserved-then-luts-gate-eq1 c =
     let l = c.loop-i in
     let one : l.i ≡ l.i - 1 + 1 = omega arith in
     backed_root pre (l.i - 1) (omega arith) (rw one at l.invariant)
-    (rw c.node_at-gate.ensures at c.if-luts-gate-eq1.true) (rw c.node_at-gate.ensures at c.mark_leaves.ensures)
+    (omega (arith, (rw c.node_at-gate.ensures at c.if-luts-gate-eq1.true))) (rw c.node_at-gate.ensures at c.mark_leaves.ensures)
 
 pub loop-i-preserved : goal.loop-i-preserved
 loop-i-preserved c =
@@ -54,7 +54,7 @@ loop-i-preserved c =
     let l = c.loop-i in
     let one : l.i ≡ l.i - 1 + 1 = omega arith in
     backed_other pre (l.i - 1) (omega arith) (rw one at l.invariant)
-    (rw c.node_at-gate.ensures at c.if-luts-gate-eq1.false)
+    (λ marked. (rw c.node_at-gate.ensures at c.if-luts-gate-eq1.false) (omega (arith, marked)))
 
 pub returns : goal.returns
 returns c =

@@ -39,8 +39,8 @@ loop-v-preserved c =
     let p = c.requires in
     let l = c.loop-v in
     elim c.if-luts-v-eq1.branch [
-      | then-luts-v-eq1 w ↦ rw w.wanted-is (wanted_root p l.auto.v c.loop-v-test.true l.invariant w.if-luts-v-eq1.true w.mark_leaves.ensures)
-      | else-luts-v-eq1 w ↦ rw w.wanted-is (wanted_other p l.auto.v c.loop-v-test.true l.invariant w.if-luts-v-eq1.false)
+      | then-luts-v-eq1 w ↦ rw w.wanted-is (wanted_root p l.auto.v c.loop-v-test.true l.invariant (omega (arith, w.if-luts-v-eq1.true)) w.mark_leaves.ensures)
+      | else-luts-v-eq1 w ↦ rw w.wanted-is (wanted_other p l.auto.v c.loop-v-test.true l.invariant (λ listed. w.if-luts-v-eq1.false (omega (arith, listed))))
     ]
 
 pub shape_of-wanted : goal.shape_of-wanted
